@@ -1,0 +1,2 @@
+-- Laws of ballots, for the crates above.
+pub mod Laws

@@ -1,0 +1,79 @@
+-- `ballot::next_own` meets its contract: it computes the formula of `leastAbove`, whose parts are small.
+use native.Mathlib.Omega.{arith}
+use native.Mathlib.Nat.{mod-lt}
+use mathlib.Core.Path.{_≡_, refl, _∙_, sym}
+use mathlib.Core.Bool.{true, _&&_}
+use Prim.Native.Nat.{ℕ, _<_, _≤_, _+_, _-_, _%_}
+use lib.Dec.{leb, ltb}
+use borrow.Author.Tests.{ltb-true, leb-true, le-leb, lt-leb}
+use Rattle.lemmas.proofs.Tests.{and-left, and-right}
+use Rattle.ballot.specs.Ballot.{limit, askable, leastAbove, nextOwn}
+use Rattle.ballot.proofs.next_own.Statement.{statement}
+use Rattle.ballot.proofs.next_own.Tie as tie
+
+record Small (n p f : ℕ) : Type 0 where
+  server : p < n
+  few : n ≤ 4
+  found : f ≤ 1000000
+  offset : f % n < n
+  ahead : (p + n - f % n) % n < n
+
+small : (n p f : ℕ) → askable n p f ≡ true → Small n p f
+small n p f e =
+    let front = and-left (ltb p n && leb n 4) (leb f limit) e in
+    let l : p < n = ltb-true p n (and-left (ltb p n) (leb n 4) front) in
+    let pos : 0 < n = omega arith in
+    record {
+      server = l;
+      few = leb-true n 4 (and-right (ltb p n) (leb n 4) front);
+      found = leb-true f limit (and-right (ltb p n && leb n 4) (leb f limit) e);
+      offset = mod-lt f pos;
+      ahead = mod-lt (p + n - f % n) pos;
+    }
+
+at : (c : tie.Then1) → Small (c .before .args .n) (c .before .args .p) (c .before .args .found)
+at c = small (c .before .args .n) (c .before .args .p) (c .before .args .found) (c .if1 .taken)
+
+add-least : tie.Need-add-least
+add-least c = omega (arith, at c)
+
+rem-least : tie.Need-rem-least
+rem-least c = omega (arith, at c)
+
+sub-least : tie.Need-sub-least
+sub-least c = omega (arith, at c)
+
+rem-least-2 : tie.Need-rem-least-2
+rem-least-2 c = omega (arith, at c)
+
+add-least-2 : tie.Need-add-least-2
+add-least-2 c = omega (arith, at c)
+
+add-least-3 : tie.Need-add-least-3
+add-least-3 c = omega (arith, at c)
+
+returns : tie.Need-returns
+unfolding nextOwn leastAbove
+returns c = simp (c .before .if1 .taken, le-leb _ _ (c .if2 .taken))
+
+returns-2 : tie.Need-returns-2
+unfolding nextOwn leastAbove
+returns-2 c = simp (c .before .if1 .taken, lt-leb _ _ (c .if2 .left))
+
+returns-3 : tie.Need-returns-3
+unfolding nextOwn leastAbove
+returns-3 c = simp (c .if1 .left)
+
+pub next-own-spec : {M : Type 1} → statement M
+next-own-spec =
+    tie.close
+    (tie.spec
+    add-least
+    rem-least
+    sub-least
+    rem-least-2
+    add-least-2
+    add-least-3
+    returns
+    returns-2
+    returns-3)

@@ -1,0 +1,34 @@
+-- Ballots and their owners (01, "The room in memory": "Ballot b, 1 to 1,000,000, belongs to server (b - 1) mod N").
+use Prim.Native.Nat.{ℕ, _+_, _-_, _%_}
+use mathlib.Core.Bool.{Bool, true, false, _&&_}
+use lib.Dec.{eqb, leb, ltb}
+use Rattle.ballot.specs.declared.Next.{Next}
+use Rattle.ballot.specs.declared.Next.the-variants.{Ballot, Spent}
+
+-- the largest ballot
+abbrev pub limit : ℕ
+limit = 1000000
+
+-- a number that is a ballot at all
+abbrev pub isBallot : ℕ → Bool
+isBallot b = leb 1 b && leb b limit
+
+-- b is a ballot of server p in a room of n servers
+unfoldable pub owned : ℕ → ℕ → ℕ → Bool
+owned n p b = ltb p n && isBallot b && eqb ((b - 1) % n) p
+
+-- the least number above f that is p's by its remainder alone
+unfoldable pub leastAbove : ℕ → ℕ → ℕ → ℕ
+leastAbove n p f = f + (p + n - f % n) % n + 1
+
+-- a room has 1 to 4 servers, p is one of them, and f is at most the largest ballot
+abbrev pub askable : ℕ → ℕ → ℕ → Bool
+askable n p f = ltb p n && leb n 4 && leb f limit
+
+abbrev pub pickNext : Bool → Next → Next → Next
+pickNext true a b = a
+pickNext false a b = b
+
+-- p's least ballot above f, or none where its ballots are spent
+unfoldable pub nextOwn : ℕ → ℕ → ℕ → Next
+nextOwn n p f = pickNext (askable n p f && leb (leastAbove n p f) limit) (Ballot (leastAbove n p f)) Spent

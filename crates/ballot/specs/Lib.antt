@@ -1,0 +1,2 @@
+-- Who owns a ballot, and the least own ballot above another.
+pub mod Ballot

@@ -1,0 +1,2 @@
+-- Laws of commands, for the crates above.
+pub mod Laws

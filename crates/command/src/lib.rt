@@ -1,0 +1,48 @@
+// Commands: whether a 32-bit number is one, and its kind, piece and hoard.
+ghost use mathlib.Core.Path.{_≡_};
+ghost use Rattle.command.specs.Command.{kindOf, pieceOf, hoardOf, isCommand, cabinetLimits};
+
+// The largest hoard of cabinets 0 to 7.
+pub const LIMITS: [u32; 8] = [255, 255, 200, 200, 120, 120, 60, 60];
+
+// 1 enter, 2 move, 3 strike.
+pub fn kind(v: u32) -> u32
+    ensures { λ r. ⌜ r ≡ kindOf v ⌝ }
+{
+    v / 65536
+}
+
+pub fn piece(v: u32) -> u32
+    ensures { λ r. ⌜ r ≡ pieceOf v ⌝ }
+{
+    v / 256 % 256
+}
+
+pub fn hoard(v: u32) -> u32
+    ensures { λ r. ⌜ r ≡ hoardOf v ⌝ }
+{
+    v % 256
+}
+
+// 01's limits, to lend to is_command.
+pub fn limits() -> [u32; 8]
+    ensures { λ r. ⌜ r ≡ cabinetLimits ⌝ }
+{
+    LIMITS
+}
+
+// Whether v is a command where each cabinet has the limit given. One test finds the kind and that the piece is
+// below 64: v / 16384 is four times the kind, and above that where the piece is too large.
+pub fn is_command(limits: &[u32; 8], v: u32) -> bool
+    ensures { λ r. ⌜ r ≡ isCommand (now (limits .entry)) v ⌝ }
+{
+    let hoard = v % 256;
+    match v / 16384 {
+        4 | 8 => {
+            let cabinet = (v / 2048 % 8) as usize;
+            (1 <= hoard) & (hoard <= limits[cabinet])
+        }
+        12 => hoard == 0,
+        _ => false,
+    }
+}

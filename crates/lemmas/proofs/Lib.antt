@@ -1,0 +1,2 @@
+-- Lemmas that several crates cite.
+pub mod Tests

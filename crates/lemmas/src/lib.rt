@@ -1,0 +1,1 @@
+// Lemmas that several crates cite; there is no code here.

@@ -1,0 +1,3 @@
+-- The server record, the block, and 01's words and numbers for an answer.
+pub mod Server
+pub mod Answers

@@ -1,0 +1,47 @@
+-- The server record and what it shows (01, "The room in memory", "The ten steps", "The one-value machine").
+use Prim.Native.Nat.{ℕ}
+use mathlib.Core.Bool.{Bool, true, false}
+use lib.Dec.{eqb}
+use Rattle.state.specs.declared.Block.{Block}
+use Rattle.state.specs.declared.Server.{Server}
+
+-- "A blank block is all zero"
+abbrev pub blank : Block
+blank = record { mbal = 0; bal = 0; inp = 0 }
+
+-- "Clear means written, read, top become 0 and seenbal, seeninp become the own bal, inp"
+abbrev pub cleared : Server → Server
+cleared v =
+    record {
+      phase = v .phase;
+      mbal = v .mbal;
+      bal = v .bal;
+      inp = v .inp;
+      offer = v .offer;
+      top = 0;
+      seenbal = v .bal;
+      seeninp = v .inp;
+      written = 0;
+      read = 0;
+    }
+
+-- "all ten cells of p become 0"
+abbrev pub failed : Server
+failed =
+    record { phase = 0; mbal = 0; bal = 0; inp = 0; offer = 0; top = 0; seenbal = 0; seeninp = 0; written = 0; read = 0 }
+
+-- the server's own mbal, bal and inp, as it writes them to a drive
+abbrev pub ownBlock : Server → Block
+ownBlock v = record { mbal = v .mbal; bal = v .bal; inp = v .inp }
+
+abbrev pub pickNumber : Bool → ℕ → ℕ → ℕ
+pickNumber true a b = a
+pickNumber false a b = b
+
+-- "a room's output is inp in phase 3 if that isn't 0, else none": 0 is none
+abbrev pub outputOf : Server → ℕ
+outputOf v = pickNumber (eqb (v .phase) 3) (v .inp) 0
+
+-- "its offer is the offer cell, 0 being none"
+abbrev pub offerOf : Server → ℕ
+offerOf v = v .offer

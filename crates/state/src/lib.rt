@@ -1,0 +1,173 @@
+// What the algorithm is about, by value: a block, a server's record, a step, an answer.
+ghost use mathlib.Core.Path.{_≡_};
+ghost use Rattle.state.specs.Server.{cleared, failed, ownBlock, outputOf};
+ghost use Rattle.state.specs.Answers.{codeOf, numberOf};
+
+// How many servers, drives and slots a room has.
+pub struct Sizes {
+    pub servers: u32,
+    pub drives: u32,
+    pub slots: u32,
+}
+
+// What a server keeps on a drive: its current ballot, the last ballot in which its phase 2 began, and the command
+// tried in that one.
+pub struct Block {
+    pub mbal: u32,
+    pub bal: u32,
+    pub inp: u32,
+}
+
+impl Block {
+    pub const BLANK: Block = Block {
+        mbal: 0,
+        bal: 0,
+        inp: 0,
+    };
+    // The largest ballot that a block can hold.
+    pub const LIMIT: u32 = ballot::LIMIT;
+}
+
+// A server's record in one slot. 01 names the fields; seenbal and seeninp are the best bal met in this phase and its
+// inp, top is the largest mbal recalled in phase 0.
+pub struct Server {
+    pub phase: u32,
+    pub mbal: u32,
+    pub bal: u32,
+    pub inp: u32,
+    pub offer: u32,
+    pub top: u32,
+    pub seenbal: u32,
+    pub seeninp: u32,
+    pub written: u32,
+    pub read: u32,
+}
+
+impl Server {
+    // What 01 calls clear, done where a phase begins.
+    pub fn cleared(mut self) -> Server
+        ensures { λ r. ⌜ r ≡ cleared self ⌝ }
+    {
+        self.written = 0;
+        self.read = 0;
+        self.top = 0;
+        self.seenbal = self.bal;
+        self.seeninp = self.inp;
+        self
+    }
+
+    // The record of a server that has failed: nothing is left of it.
+    pub fn failed(mut self) -> Server
+        ensures { λ r. ⌜ r ≡ failed ⌝ }
+    {
+        self.phase = 0;
+        self.mbal = 0;
+        self.bal = 0;
+        self.inp = 0;
+        self.offer = 0;
+        self.cleared()
+    }
+
+    // The block that the server would write.
+    pub fn own_block(self) -> Block
+        ensures { λ r. ⌜ r ≡ ownBlock self ⌝ }
+    {
+        Block {
+            mbal: self.mbal,
+            bal: self.bal,
+            inp: self.inp,
+        }
+    }
+
+    // The command that the slot was settled with, as far as this server knows; 0 is none.
+    pub fn output(self) -> u32
+        ensures { λ r. ⌜ r ≡ outputOf self ⌝ }
+    {
+        if self.phase == 3 { self.inp } else { 0 }
+    }
+}
+
+// A step, one of ten kinds with its own numbers.
+pub enum Step {
+    Offer {
+        server: u8,
+        slot: u8,
+        command: u32,
+    },
+    Recall {
+        server: u8,
+        slot: u8,
+        drive: u8,
+    },
+    Rejoin {
+        server: u8,
+        slot: u8,
+        ballot: u32,
+    },
+    Bid {
+        server: u8,
+        slot: u8,
+        ballot: u32,
+    },
+    Write {
+        server: u8,
+        slot: u8,
+        drive: u8,
+    },
+    Read {
+        server: u8,
+        slot: u8,
+        drive: u8,
+        other: u8,
+    },
+    Finish {
+        server: u8,
+        slot: u8,
+    },
+    Fail {
+        server: u8,
+    },
+    DriveOff {
+        drive: u8,
+    },
+    DriveOn {
+        drive: u8,
+    },
+}
+
+// What a step answers: outbid with the ballot found, chosen and committed with the command, refused with its number.
+pub enum Answer {
+    Done,
+    Outbid(u32),
+    Chosen(u32),
+    Committed(u32),
+    Refused(u32),
+}
+
+impl Answer {
+    // 01's word for the answer: 0 done, 1 outbid, 2 chosen, 3 committed, 4 refused.
+    pub fn code(self) -> u32
+        ensures { λ r. ⌜ r ≡ codeOf self ⌝ }
+    {
+        match self {
+            Answer::Done => 0,
+            Answer::Outbid(_) => 1,
+            Answer::Chosen(_) => 2,
+            Answer::Committed(_) => 3,
+            Answer::Refused(_) => 4,
+        }
+    }
+
+    // The number that goes with the word.
+    pub fn number(self) -> u32
+        ensures { λ r. ⌜ r ≡ numberOf self ⌝ }
+    {
+        match self {
+            Answer::Done => 0,
+            Answer::Outbid(ballot) => ballot,
+            Answer::Chosen(command) => command,
+            Answer::Committed(command) => command,
+            Answer::Refused(number) => number,
+        }
+    }
+}

@@ -1,0 +1,42 @@
+-- Refusal 4 (01, "Who can bring which number"): server, slot, drive or other beyond the room, or other = server.
+-- Refusal 5: not a command.
+use Prim.Native.Nat.{ℕ}
+use mathlib.Core.Bool.{Bool, true, not, _&&_}
+use mathlib.Core.List.{List}
+use lib.Dec.{eqb, ltb}
+use Rattle.command.specs.Command.{isCommand}
+use Rattle.state.specs.declared.Sizes.{Sizes}
+use Rattle.state.specs.declared.Step.{Step}
+use Rattle.state.specs.declared.Step.the-variants.{Offer, Recall, Rejoin, Bid, Write, Read, Finish, Fail, DriveOff, DriveOn}
+
+abbrev pub serverFits : Sizes → ℕ → ℕ → Bool
+serverFits z p s = ltb p (z .servers) && ltb s (z .slots)
+
+abbrev pub driveFits : Sizes → ℕ → Bool
+driveFits z d = ltb d (z .drives)
+
+-- every place that the step names is in the room
+unfoldable pub placesFit : Sizes → Step → Bool
+placesFit z (Offer p s v) = serverFits z p s
+placesFit z (Recall p s d) = serverFits z p s && driveFits z d
+placesFit z (Rejoin p s b) = serverFits z p s
+placesFit z (Bid p s b) = serverFits z p s
+placesFit z (Write p s d) = serverFits z p s && driveFits z d
+placesFit z (Read p s d q) = serverFits z p s && driveFits z d && ltb q (z .servers) && not (eqb q p)
+placesFit z (Finish p s) = serverFits z p s
+placesFit z (Fail p) = ltb p (z .servers)
+placesFit z (DriveOff d) = driveFits z d
+placesFit z (DriveOn d) = driveFits z d
+
+-- the command that the step offers, if it offers one, is a command
+unfoldable pub commandFits : List ℕ → Step → Bool
+commandFits limits (Offer p s v) = isCommand limits v
+commandFits limits (Recall p s d) = true
+commandFits limits (Rejoin p s b) = true
+commandFits limits (Bid p s b) = true
+commandFits limits (Write p s d) = true
+commandFits limits (Read p s d q) = true
+commandFits limits (Finish p s) = true
+commandFits limits (Fail p) = true
+commandFits limits (DriveOff d) = true
+commandFits limits (DriveOn d) = true

@@ -1,0 +1,169 @@
+-- What an accepted step makes of a server's record (01, "The ten steps").
+use Prim.Native.Nat.{ℕ, _+_, _*_, max}
+use mathlib.Core.Bool.{Bool, true, false, _&&_, _||_}
+use lib.Dec.{eqb, ltb}
+use Rattle.quorum.specs.Marks.{stands, marked}
+use Rattle.quorum.specs.Sets.{allBelow}
+use Rattle.state.specs.declared.Block.{Block}
+use Rattle.state.specs.declared.Server.{Server}
+use Rattle.state.specs.Server.{cleared, pickNumber}
+
+-- the bit of server q's block on drive d in the read marks
+abbrev pub readBit : ℕ → ℕ → ℕ
+readBit d q = 4 * d + q
+
+-- 1 Offer: the offer becomes the command
+unfoldable pub offering : Server → ℕ → Server
+offering v command =
+    record {
+      phase = v .phase;
+      mbal = v .mbal;
+      bal = v .bal;
+      inp = v .inp;
+      offer = command;
+      top = v .top;
+      seenbal = v .seenbal;
+      seeninp = v .seeninp;
+      written = v .written;
+      read = v .read;
+    }
+
+-- the block b, met in this phase: a larger bal replaces seenbal and seeninp
+unfoldable pub meeting : Server → Block → Server
+meeting v b =
+    record {
+      phase = v .phase;
+      mbal = v .mbal;
+      bal = v .bal;
+      inp = v .inp;
+      offer = v .offer;
+      top = v .top;
+      seenbal = pickNumber (ltb (v .seenbal) (b .bal)) (b .bal) (v .seenbal);
+      seeninp = pickNumber (ltb (v .seenbal) (b .bal)) (b .inp) (v .seeninp);
+      written = v .written;
+      read = v .read;
+    }
+
+-- server q's block on drive d was read in this phase
+unfoldable pub marking : Server → ℕ → ℕ → Server
+marking v d q =
+    record {
+      phase = v .phase;
+      mbal = v .mbal;
+      bal = v .bal;
+      inp = v .inp;
+      offer = v .offer;
+      top = v .top;
+      seenbal = v .seenbal;
+      seeninp = v .seeninp;
+      written = v .written;
+      read = marked (v .read) (readBit d q);
+    }
+
+-- top becomes the larger of itself and the mbal
+unfoldable pub topping : Server → ℕ → Server
+topping v mbal =
+    record {
+      phase = v .phase;
+      mbal = v .mbal;
+      bal = v .bal;
+      inp = v .inp;
+      offer = v .offer;
+      top = max (v .top) mbal;
+      seenbal = v .seenbal;
+      seeninp = v .seeninp;
+      written = v .written;
+      read = v .read;
+    }
+
+-- 2 Recall: server p's own block b on drive d is read
+unfoldable pub recalling : Server → Block → ℕ → ℕ → Server
+recalling v b p d = meeting (topping (marking v d p) (b .mbal)) b
+
+-- 3 Rejoin: the own block becomes (ballot, seenbal, seeninp); phase 1; clear
+unfoldable pub rejoining : Server → ℕ → Server
+rejoining v ballot =
+    cleared
+    (record {
+      phase = 1;
+      mbal = ballot;
+      bal = v .seenbal;
+      inp = v .seeninp;
+      offer = v .offer;
+      top = v .top;
+      seenbal = v .seenbal;
+      seeninp = v .seeninp;
+      written = v .written;
+      read = v .read;
+    })
+
+-- 4 Bid: mbal becomes the ballot; phase 1; clear
+unfoldable pub bidding : Server → ℕ → Server
+bidding v ballot =
+    cleared
+    (record {
+      phase = 1;
+      mbal = ballot;
+      bal = v .bal;
+      inp = v .inp;
+      offer = v .offer;
+      top = v .top;
+      seenbal = v .seenbal;
+      seeninp = v .seeninp;
+      written = v .written;
+      read = v .read;
+    })
+
+-- 5 Write: bit d of written set
+unfoldable pub writing : Server → ℕ → Server
+writing v d =
+    record {
+      phase = v .phase;
+      mbal = v .mbal;
+      bal = v .bal;
+      inp = v .inp;
+      offer = v .offer;
+      top = v .top;
+      seenbal = v .seenbal;
+      seeninp = v .seeninp;
+      written = marked (v .written) d;
+      read = v .read;
+    }
+
+-- 6 Read, not outbid: bit 4d + q set, and a larger bal replaces seenbal and seeninp
+unfoldable pub reading : Server → Block → ℕ → ℕ → Server
+reading v b d q = meeting (marking v d q) b
+
+-- 7 Finish, phase 1: bal becomes mbal, inp the command; phase 2; clear
+unfoldable pub proposing : Server → ℕ → Server
+proposing v command =
+    cleared
+    (record {
+      phase = 2;
+      mbal = v .mbal;
+      bal = v .mbal;
+      inp = command;
+      offer = v .offer;
+      top = v .top;
+      seenbal = v .seenbal;
+      seeninp = v .seeninp;
+      written = v .written;
+      read = v .read;
+    })
+
+-- 7 Finish, phase 2: phase 3; clear
+unfoldable pub committing : Server → Server
+committing v =
+    cleared
+    (record {
+      phase = 3;
+      mbal = v .mbal;
+      bal = v .bal;
+      inp = v .inp;
+      offer = v .offer;
+      top = v .top;
+      seenbal = v .seenbal;
+      seeninp = v .seeninp;
+      written = v .written;
+      read = v .read;
+    })
