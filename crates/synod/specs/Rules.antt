@@ -34,9 +34,13 @@ balloting v = eqb (v .phase) 1 || eqb (v .phase) 2
 abbrev pub recalledOn : Server → ℕ → ℕ → Bool
 recalledOn v p d = stands (v .read) (readBit d p)
 
+-- q is p itself, or its block on drive d was read in this phase
+abbrev pub otherRead : Server → ℕ → ℕ → ℕ → Bool
+otherRead v p d q = eqb q p || stands (v .read) (readBit d q)
+
 -- every other server's block on drive d was read in this phase, in a room of n servers
 abbrev pub othersRead : ℕ → Server → ℕ → ℕ → Bool
-othersRead n v p d = allBelow n (λ q. eqb q p || stands (v .read) (readBit d q))
+othersRead n v p d = allBelow n (otherRead v p d)
 
 -- the drives written with every other server's block read there
 abbrev pub completeOn : ℕ → Server → ℕ → ℕ → Bool

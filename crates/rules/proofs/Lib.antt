@@ -1,0 +1,2 @@
+-- Lemmas of several functions of this crate.
+mod Judged

@@ -1,0 +1,58 @@
+-- `rules::arguments::command_fits` meets its contract: only Offer has a command.
+use borrow.Author.Needs.{needs}
+use Rattle.rules.proofs.arguments.command_fits.Statement.{statement}
+use Rattle.rules.proofs.arguments.command_fits.Tie as tie
+use Rattle.rules.proofs.arguments.command_fits.Reads as reads
+use Rattle.rules.proofs.arguments.command_fits.Lts as lts
+use Rattle.command.proofs.is_command.Reads as is-command-reads
+use mathlib.Core.Path.{_≡_, refl, _∙_, sym, ap}
+use Rattle.synod.specs.Arguments.{commandFits}
+use Rattle.state.specs.declared.Step.{Step}
+use Rattle.state.specs.declared.Step.the-variants.{Offer, Recall, Rejoin, Bid, Write, Read, Finish, Fail, DriveOff, DriveOn}
+use Rattle.state.proofs.Step.{the-type}
+use denote.Enum.Declared.{tagOf}
+use types.Run.{OneOf, miss}
+use mathlib.Core.List.{List, [], _∷_}
+use Prim.Native.Nat.{ℕ}
+use mathlib.Core.Bool.{true}
+
+enum-known-step : tie.Need-enum-known-step
+enum-known-step c = search needs
+
+is-command-requires : tie.Need-is-command-requires
+is-command-requires c κs = search needs
+
+-- the numbers of the kinds but Offer
+abbrev others : List ℕ
+others = 1 ∷ 2 ∷ 3 ∷ 4 ∷ 5 ∷ 6 ∷ 7 ∷ 8 ∷ 9 ∷ []
+
+-- every kind but Offer passes
+only-offer : (limits : List ℕ) (st : Step) → OneOf others (tagOf the-type st) → true ≡ commandFits limits st
+unfolding commandFits
+only-offer limits (Offer p s v) k = absurd (miss others 0 tt k)
+only-offer limits (Recall p s d) k = refl
+only-offer limits (Rejoin p s b) k = refl
+only-offer limits (Bid p s b) k = refl
+only-offer limits (Write p s d) k = refl
+only-offer limits (Read p s d q) k = refl
+only-offer limits (Finish p s) k = refl
+only-offer limits (Fail p) k = refl
+only-offer limits (DriveOff d) k = refl
+only-offer limits (DriveOn d) k = refl
+
+returns : tie.Need-returns
+unfolding commandFits
+returns c =
+    let at-is-command = c .is-command in
+    let at-args = c .before .before .before .before .args in
+    let at-step = c .before .before .step in
+    at-is-command .ensures ∙ sym (ap (commandFits (at-args .limits .now)) (at-step .given .1))
+
+returns-2 : tie.Need-returns-2
+returns-2 c =
+    let at-args = c .before .args in
+    let at-match = c .match in
+    only-offer (at-args .limits .now) (at-args .step) (at-match .keys2)
+
+pub command-fits-spec : {M : Type 1} → statement M
+command-fits-spec = tie.close (tie.spec enum-known-step is-command-requires returns returns-2)

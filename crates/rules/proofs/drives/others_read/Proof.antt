@@ -1,0 +1,83 @@
+-- `rules::drives::others_read` meets its contract: the servers passed so far are p or were read.
+use borrow.Author.Needs.{needs}
+use Rattle.rules.proofs.drives.others_read.Statement.{statement}
+use Rattle.rules.proofs.drives.others_read.Tie as tie
+use Rattle.rules.proofs.drives.others_read.Reads as reads
+use Rattle.rules.proofs.drives.others_read.Lts as lts
+use Rattle.quorum.proofs.has_mark.Reads as has-mark-reads
+use native.Mathlib.Omega.{arith}
+use Prim.Native.Nat.{_≤_, _-_}
+use mathlib.Core.Path.{_≡_, refl, _∙_, sym, ap}
+use mathlib.Core.Bool.{Bool, true, false, not, _||_}
+use lib.Dec.{eqb}
+use borrow.Author.Tests.{not-true, not-false}
+use Rattle.quorum.specs.Sets.{allBelow}
+use Rattle.quorum.proofs.SetLaws.{all-none, all-more, all-fails}
+use Rattle.synod.specs.Rules.{othersRead, otherRead}
+
+abbrev Inv-loop : tie.InvT-loop
+Inv-loop servers v p d q₀ q = (q ≤ servers) × (othersRead q v p d ≡ true)
+
+abbrev μ-loop : tie.MeasureT-loop
+μ-loop servers v p d q₀ q = servers - q
+
+loop-holds : tie.Need-loop-holds Inv-loop μ-loop
+loop-holds c =
+    let at-args = c .args in
+    (omega arith, all-none (otherRead (at-args .v) (at-args .p) (at-args .d)))
+
+mul-has-mark : tie.Need-mul-has-mark Inv-loop μ-loop
+mul-has-mark c = omega arith
+
+add-has-mark : tie.Need-add-has-mark Inv-loop μ-loop
+add-has-mark c = omega arith
+
+has-mark-requires : tie.Need-has-mark-requires Inv-loop μ-loop
+has-mark-requires c κs = search needs
+
+returns : tie.Need-returns Inv-loop μ-loop
+returns c =
+    let at-args = c .before .before .before .before .args in
+    let at-loop = c .before .before .before .loop in
+    let at-loop-test = c .before .before .loop-test in
+    let at-has-mark = c .before .has-mark in
+    let at-if1 = c .if1 in
+    sym (all-fails (at-args .servers) (otherRead (at-args .v) (at-args .p) (at-args .d)) (at-loop .q) (at-loop-test .taken)
+    (ap (λ (b : Bool). eqb (at-loop .q) (at-args .p) || b) (sym (at-has-mark .ensures)) ∙ not-true _ (at-if1 .taken)))
+
+add-q : tie.Need-add-q Inv-loop μ-loop
+add-q c = omega arith
+
+loop-less : tie.Need-loop-less Inv-loop μ-loop
+loop-less c = omega arith
+
+loop-again : tie.Need-loop-again Inv-loop μ-loop
+loop-again c =
+    let at-loop = c .before .before .before .loop in
+    let at-args = c .before .before .before .before .args in
+    let at-has-mark = c .before .has-mark in
+    let at-if1 = c .if1 in
+    (omega arith, all-more (at-loop .q) (otherRead (at-args .v) (at-args .p) (at-args .d)) (at-loop .inv .1)
+    (ap (λ (b : Bool). eqb (at-loop .q) (at-args .p) || b) (sym (at-has-mark .ensures)) ∙ not-false _ (at-if1 .left)))
+
+returns-2 : tie.Need-returns-2 Inv-loop μ-loop
+returns-2 c =
+    let at-loop = c .before .loop in
+    let at-args = c .before .before .args in
+    let e : at-loop .q ≡ at-args .servers = omega arith in rw e at (sym (at-loop .inv .1))
+
+pub others-read-spec : {M : Type 1} → statement M
+others-read-spec =
+    tie.close
+    (tie.spec
+    Inv-loop
+    μ-loop
+    loop-holds
+    mul-has-mark
+    add-has-mark
+    has-mark-requires
+    returns
+    add-q
+    loop-less
+    loop-again
+    returns-2)

@@ -1,0 +1,196 @@
+// The rules of the algorithm on values: each takes a server's record, the block it looks at and the step's numbers,
+// and answers a refusal or the record as it becomes, with the answer.
+ghost use mathlib.Core.Path.{_≡_};
+ghost use Prim.Native.Nat.{_≤_, max};
+ghost use Rattle.synod.specs.Changes.{meeting, bidding};
+ghost use Rattle.ballot.specs.Ballot.{nextOwn};
+ghost use Rattle.synod.specs.Rules.{balloting, commandOf, outbidRule, offerRule, recallRule, rejoinRule, bidRule, writeRule, readRule, finishRule};
+use ballot::Next;
+use ballot::is_own;
+use ballot::next_own;
+use quorum::has_mark;
+use quorum::is_majority;
+use quorum::with_mark;
+use state::Answer;
+use state::Block;
+use state::Server;
+use synod::Ruling;
+
+pub mod arguments;
+pub mod drives;
+
+// 1 Offer, in any phase.
+pub fn offer(mut v: Server, command: u32) -> Ruling
+    ensures { λ r. ⌜ r ≡ offerRule v command ⌝ }
+{
+    v.offer = command;
+    Ruling::Accepted(v, Answer::Done)
+}
+
+// 2 Recall, phase 0: b is server p's own block on drive d.
+pub fn recall(off: u32, v: Server, b: Block, p: u8, d: u8) -> Ruling
+    ensures { λ r. ⌜ r ≡ recallRule off v b p d ⌝ }
+{
+    if v.phase != 0 {
+        return Ruling::Refused(7);
+    }
+    if has_mark(off, d as u32) {
+        return Ruling::Refused(8);
+    }
+    let mut w = v;
+    w.read = with_mark(v.read, 4 * (d as u32) + (p as u32));
+    w.top = larger(v.top, b.mbal);
+    Ruling::Accepted(meet(w, b), Answer::Done)
+}
+
+// 3 Rejoin, phase 0, a majority recalled, the ballot p's and above top.
+pub fn rejoin(servers: u32, drives: u32, v: Server, p: u8, ballot: u32) -> Ruling
+    requires { ⌜ drives ≤ 7 ⌝ }
+    ensures { λ r. ⌜ r ≡ rejoinRule servers drives v p ballot ⌝ }
+{
+    if !is_own(servers, p as u32, ballot) {
+        return Ruling::Refused(6);
+    }
+    if v.phase != 0 {
+        return Ruling::Refused(7);
+    }
+    if !is_majority(drives, drives::recalled(v, p, drives)) {
+        return Ruling::Refused(10);
+    }
+    if ballot <= v.top {
+        return Ruling::Refused(11);
+    }
+    let mut w = v;
+    w.phase = 1;
+    w.mbal = ballot;
+    w.bal = v.seenbal;
+    w.inp = v.seeninp;
+    Ruling::Accepted(w.cleared(), Answer::Done)
+}
+
+// 4 Bid, phase 1 or 2, the ballot p's and above the own mbal.
+pub fn bid(servers: u32, v: Server, p: u8, ballot: u32) -> Ruling
+    ensures { λ r. ⌜ r ≡ bidRule servers v p ballot ⌝ }
+{
+    if !is_own(servers, p as u32, ballot) {
+        return Ruling::Refused(6);
+    }
+    if !in_ballot(v) {
+        return Ruling::Refused(7);
+    }
+    if ballot <= v.mbal {
+        return Ruling::Refused(11);
+    }
+    Ruling::Accepted(restart(v, ballot), Answer::Done)
+}
+
+// 5 Write, phase 1 or 2. The block to be written is the own block.
+pub fn write(off: u32, v: Server, d: u8) -> Ruling
+    ensures { λ r. ⌜ r ≡ writeRule off v d ⌝ }
+{
+    if !in_ballot(v) {
+        return Ruling::Refused(7);
+    }
+    if has_mark(off, d as u32) {
+        return Ruling::Refused(8);
+    }
+    let mut w = v;
+    w.written = with_mark(v.written, d as u32);
+    Ruling::Accepted(w, Answer::Done)
+}
+
+// 6 Read, phase 1 or 2, d written in this phase: b is server q's block on drive d.
+pub fn read(servers: u32, off: u32, v: Server, b: Block, p: u8, d: u8, q: u8) -> Ruling
+    ensures { λ r. ⌜ r ≡ readRule servers off v b p d q ⌝ }
+{
+    if !in_ballot(v) {
+        return Ruling::Refused(7);
+    }
+    if has_mark(off, d as u32) {
+        return Ruling::Refused(8);
+    }
+    if !has_mark(v.written, d as u32) {
+        return Ruling::Refused(9);
+    }
+    if v.mbal <= b.mbal {
+        return outbid(servers, v, p, b.mbal);
+    }
+    let mut w = v;
+    w.read = with_mark(v.read, 4 * (d as u32) + (q as u32));
+    Ruling::Accepted(meet(w, b), Answer::Done)
+}
+
+// 7 Finish, phase 1 or 2, a majority of drives written with every other server's block read there.
+pub fn finish(servers: u32, drives: u32, v: Server, p: u8) -> Ruling
+    requires { ⌜ (servers ≤ 4) × (drives ≤ 7) ⌝ }
+    ensures { λ r. ⌜ r ≡ finishRule servers drives v p ⌝ }
+{
+    if !in_ballot(v) {
+        return Ruling::Refused(7);
+    }
+    if !is_majority(drives, drives::complete(servers, v, p, drives)) {
+        return Ruling::Refused(10);
+    }
+    let mut w = v;
+    if v.phase == 1 {
+        let command = command_of(v);
+        if command == 0 {
+            return Ruling::Refused(12);
+        }
+        w.phase = 2;
+        w.bal = v.mbal;
+        w.inp = command;
+        return Ruling::Accepted(w.cleared(), Answer::Chosen(command));
+    }
+    w.phase = 3;
+    Ruling::Accepted(w.cleared(), Answer::Committed(v.inp))
+}
+
+// A block with a ballot that is not below the own one was found.
+fn outbid(servers: u32, v: Server, p: u8, found: u32) -> Ruling
+    ensures { λ r. ⌜ r ≡ outbidRule v found (nextOwn servers p found) ⌝ }
+{
+    match next_own(servers, p as u32, found) {
+        Next::Ballot(next) => Ruling::Accepted(restart(v, next), Answer::Outbid(found)),
+        Next::Spent => Ruling::Refused(13),
+    }
+}
+
+// Phase 1 of a new ballot.
+fn restart(mut v: Server, ballot: u32) -> Server
+    ensures { λ r. ⌜ r ≡ bidding v ballot ⌝ }
+{
+    v.phase = 1;
+    v.mbal = ballot;
+    v.cleared()
+}
+
+// A block met in this phase: a larger bal replaces what was seen.
+fn meet(mut v: Server, b: Block) -> Server
+    ensures { λ r. ⌜ r ≡ meeting v b ⌝ }
+{
+    if v.seenbal < b.bal {
+        v.seenbal = b.bal;
+        v.seeninp = b.inp;
+    }
+    v
+}
+
+fn in_ballot(v: Server) -> bool
+    ensures { λ r. ⌜ r ≡ balloting v ⌝ }
+{
+    (v.phase == 1) | (v.phase == 2)
+}
+
+// The command of phase 1; 0 is none.
+fn command_of(v: Server) -> u32
+    ensures { λ r. ⌜ r ≡ commandOf v ⌝ }
+{
+    if v.seeninp == 0 { v.offer } else { v.seeninp }
+}
+
+fn larger(a: u32, b: u32) -> u32
+    ensures { λ r. ⌜ r ≡ max a b ⌝ }
+{
+    if a < b { b } else { a }
+}
