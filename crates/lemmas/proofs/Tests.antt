@@ -32,3 +32,16 @@ or-left false b e = absurd (true≢false (sym e))
 pub or-right : (a b : Bool) → b ≡ true → (a || b) ≡ true
 or-right true b e = refl
 or-right false b e = e
+
+-- how a chain of tests ends, and how it goes on
+pub none-left : (a b : Bool) → a ≡ false → (a && b) ≡ false
+none-left false b e = refl
+none-left true b e = absurd (true≢false e)
+
+pub none-right : (a b : Bool) → b ≡ false → (a && b) ≡ false
+none-right false b e = refl
+none-right true b e = e
+
+pub goes-on : (a b x : Bool) → a ≡ true → x ≡ b → x ≡ (a && b)
+goes-on true b x e f = f
+goes-on false b x e f = absurd (true≢false (sym e))

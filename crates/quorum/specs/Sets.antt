@@ -1,8 +1,8 @@
 -- Sets of drives, their size, and majority (01, "The room in memory").
 use Prim.Native.Nat.{ℕ, zero, suc, _+_, _*_, _^_}
-use mathlib.Core.Bool.{Bool, true, false, _&&_}
+use mathlib.Core.Bool.{Bool, true, false, not, _&&_, _||_}
 use lib.Dec.{ltb}
-use Rattle.quorum.specs.Marks.{pick}
+use Rattle.quorum.specs.Marks.{stands, pick}
 
 -- f holds of every number below n
 unfoldable pub allBelow : ℕ → (ℕ → Bool) → Bool
@@ -22,3 +22,7 @@ gathered (suc n) set = gathered n set + pick (set n) (2 ^ n) 0
 -- "A majority is a set of drives with twice its number above D"
 unfoldable pub majority : ℕ → (ℕ → Bool) → Bool
 majority drives set = ltb drives (2 * size drives set)
+
+-- every bit that stands in a mark cell stands in the cell of legal marks too
+unfoldable pub within : ℕ → ℕ → Bool
+within m legal = allBelow 32 (λ i. not (stands m i) || stands legal i)

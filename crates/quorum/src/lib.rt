@@ -1,7 +1,7 @@
 // Marks in a 32-bit cell, and which marked sets of drives are a majority.
 ghost use mathlib.Core.Path.{_≡_};
 ghost use Rattle.quorum.specs.Marks.{stands, marked, unmarked};
-ghost use Rattle.quorum.specs.Sets.{majority};
+ghost use Rattle.quorum.specs.Sets.{majority, within};
 
 // Whether bit i of a mark cell stands. A cell has no bit 32 or above.
 pub fn has_mark(marks: u32, i: u32) -> bool
@@ -38,4 +38,11 @@ pub fn is_majority(drives: u32, marks: u32) -> bool
         marks
     };
     drives < 2 * u32::count_ones(counted)
+}
+
+// Whether no mark stands but those that stand in the cell of legal marks: one operation for the whole cell.
+pub fn only_legal(marks: u32, legal: u32) -> bool
+    ensures { λ r. ⌜ r ≡ within marks legal ⌝ }
+{
+    (marks | legal) == legal
 }

@@ -50,13 +50,14 @@ loop-again c =
     let at-loop = c .before .before .before .before .loop in
     let at-args = c .before .before .before .before .before .args in
     let at-if1 = c .if1 in
-    let test = ap₂ _&&_ (sym (at-has-mark .ensures)) (sym (at-others-read .ensures)) in
-    (omega arith,
-    ⊎-elim
-    (λ w. w .2 ∙ w .1 .ensures ∙ ap (λ (m : ℕ). marked m (at-loop .d)) (at-loop .inv .1)
-        ∙ gathered-more (at-loop .d) (completeOn (at-args .servers) (at-args .v) (at-args .p)) (omega arith) (test ∙ w .0 .taken))
-    (λ w. w .1 ∙ at-loop .inv .1 ∙ gathered-past (at-loop .d) (completeOn (at-args .servers) (at-args .v) (at-args .p)) (test ∙ w .0 .left))
-    (at-if1 .came))
+    let test = ap₂ _&&_ (sym (at-has-mark .ensures)) (sym (at-others-read .ensures)) in (
+      omega arith,
+      ⊎-elim
+          (λ w. w .2 ∙ w .1 .ensures ∙ ap (λ (m : ℕ). marked m (at-loop .d)) (at-loop .inv .1)
+          ∙ gathered-more (at-loop .d) (completeOn (at-args .servers) (at-args .v) (at-args .p)) (omega arith) (test ∙ w .0 .taken))
+          (λ w. w .1 ∙ at-loop .inv .1 ∙ gathered-past (at-loop .d) (completeOn (at-args .servers) (at-args .v) (at-args .p)) (test ∙ w .0 .left))
+          (at-if1 .came),
+    )
 
 returns : tie.Need-returns Inv-loop μ-loop
 returns c =

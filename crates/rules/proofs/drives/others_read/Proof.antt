@@ -56,9 +56,11 @@ loop-again c =
     let at-loop = c .before .before .before .loop in
     let at-args = c .before .before .before .before .args in
     let at-has-mark = c .before .has-mark in
-    let at-if1 = c .if1 in
-    (omega arith, all-more (at-loop .q) (otherRead (at-args .v) (at-args .p) (at-args .d)) (at-loop .inv .1)
-    (ap (λ (b : Bool). eqb (at-loop .q) (at-args .p) || b) (sym (at-has-mark .ensures)) ∙ not-false _ (at-if1 .left)))
+    let at-if1 = c .if1 in (
+      omega arith,
+      all-more (at-loop .q) (otherRead (at-args .v) (at-args .p) (at-args .d)) (at-loop .inv .1)
+          (ap (λ (b : Bool). eqb (at-loop .q) (at-args .p) || b) (sym (at-has-mark .ensures)) ∙ not-false _ (at-if1 .left)),
+    )
 
 returns-2 : tie.Need-returns-2 Inv-loop μ-loop
 returns-2 c =

@@ -1,0 +1,4 @@
+-- Laws of places and of cells, for the crates above.
+pub mod PlaceLaws
+pub mod CellLaws
+pub mod RoomLaws

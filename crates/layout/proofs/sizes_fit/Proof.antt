@@ -1,0 +1,15 @@
+-- `layout::sizes_fit` meets its contract.
+use borrow.Author.Needs.{needs}
+use Rattle.layout.proofs.sizes_fit.Statement.{statement}
+use Rattle.layout.proofs.sizes_fit.Tie as tie
+use Rattle.layout.proofs.sizes_fit.Reads as reads
+use Rattle.layout.proofs.sizes_fit.Lts as lts
+use mathlib.Core.Path.{refl}
+use Rattle.layout.specs.Places.{sizesFit}
+
+returns : tie.Need-returns
+unfolding sizesFit
+returns c = refl
+
+pub sizes-fit-spec : {M : Type 1} → statement M
+sizes-fit-spec = tie.close (tie.spec returns)

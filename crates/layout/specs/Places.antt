@@ -1,0 +1,65 @@
+-- The places of a room (01, "The room in memory"). The literals of the layout stand here and in Cells alone.
+use Prim.Native.Nat.{ℕ, _+_, _*_, _≤_}
+use mathlib.Core.Bool.{Bool, _&&_}
+use mathlib.Core.List.{List}
+use mathlib.Core.Path.{_≡_}
+use lib.ListN.{length}
+use lib.Dec.{leb}
+use Rattle.state.specs.declared.Sizes.{Sizes}
+
+-- cells 0 to 3 are N, D, S and the off marks
+abbrev pub base : ℕ
+base = 4
+
+-- cells of a server record
+abbrev pub recordLength : ℕ
+recordLength = 10
+
+-- cells of a block
+abbrev pub blockLength : ℕ
+blockLength = 3
+
+-- the cells of one slot: N records, then for each drive N blocks
+unfoldable pub slotLength : Sizes → ℕ
+slotLength z = recordLength * z .servers + blockLength * (z .drives * z .servers)
+
+-- "length 4 + S × (10 × N + 3 × D × N)"
+unfoldable pub roomLength : Sizes → ℕ
+roomLength z = base + z .slots * slotLength z
+
+-- where slot s begins
+unfoldable pub slotAt : Sizes → ℕ → ℕ
+slotAt z s = base + s * slotLength z
+
+-- where the record of server p in slot s begins
+unfoldable pub serverAt : Sizes → ℕ → ℕ → ℕ
+serverAt z s p = slotAt z s + recordLength * p
+
+-- where the k-th block of slot s begins, counted drive by drive
+unfoldable pub nthBlockAt : Sizes → ℕ → ℕ → ℕ
+nthBlockAt z s k = slotAt z s + recordLength * z .servers + blockLength * k
+
+-- where server p's block on drive d in slot s begins
+unfoldable pub blockAt : Sizes → ℕ → ℕ → ℕ → ℕ
+blockAt z s d p = nthBlockAt z s (d * z .servers + p)
+
+-- "N 1 to 4, D 1 to 7, S 1 to 16"
+unfoldable pub sizesFit : Sizes → Bool
+sizesFit z =
+    leb 1 (z .servers) && leb (z .servers) 4
+    && leb 1 (z .drives) && leb (z .drives) 7
+    && leb 1 (z .slots) && leb (z .slots) 16
+
+-- the sizes as bounds
+pub record Fit (z : Sizes) : Type 0 where
+  pub one-server : 1 ≤ z .servers
+  pub servers : z .servers ≤ 4
+  pub one-drive : 1 ≤ z .drives
+  pub drives : z .drives ≤ 7
+  pub one-slot : 1 ≤ z .slots
+  pub slots : z .slots ≤ 16
+
+-- a row that is as long as a room of these sizes
+pub record Row (z : Sizes) (cells : List ℕ) : Type 0 where
+  pub fit : Fit z
+  pub exact : length cells ≡ roomLength z

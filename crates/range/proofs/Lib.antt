@@ -1,0 +1,3 @@
+-- Laws of the range rule, for the crates above.
+pub mod MaskTable
+pub mod Laws

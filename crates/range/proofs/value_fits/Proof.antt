@@ -1,0 +1,28 @@
+-- `range::value_fits` meets its contract.
+use borrow.Author.Needs.{needs}
+use Rattle.range.proofs.value_fits.Statement.{statement}
+use Rattle.range.proofs.value_fits.Tie as tie
+use Rattle.range.proofs.value_fits.Reads as reads
+use Rattle.range.proofs.value_fits.Lts as lts
+use Rattle.command.proofs.is_command.Reads as is-command-reads
+use borrow.Author.Tests.{eq-eqb, ne-eqb}
+use Rattle.range.specs.Range.{valueFits}
+
+returns : tie.Need-returns
+unfolding valueFits
+returns c =
+    let at-if1 = c .if1 in
+    simp (eq-eqb _ _ (at-if1 .taken))
+
+is-command-requires : tie.Need-is-command-requires
+is-command-requires c κs = search needs
+
+returns-2 : tie.Need-returns-2
+unfolding valueFits
+returns-2 c =
+    let at-if1 = c .before .if1 in
+    let at-is-command = c .is-command in
+    simp (ne-eqb _ _ (at-if1 .left), at-is-command .ensures)
+
+pub value-fits-spec : {M : Type 1} → statement M
+value-fits-spec = tie.close (tie.spec returns is-command-requires returns-2)

@@ -1,0 +1,2 @@
+-- When the cells of a row are in range.
+pub mod Range
