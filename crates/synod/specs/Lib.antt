@@ -2,3 +2,4 @@
 pub mod Arguments
 pub mod Changes
 pub mod Rules
+pub mod Slot

@@ -1,0 +1,315 @@
+-- `room::effect::rule` meets its contract: each kind loads what it names and asks its rule.
+use borrow.Author.Needs.{needs}
+use Rattle.room.proofs.effect.rule.Statement.{statement}
+use Rattle.room.proofs.effect.rule.Tie as tie
+use Rattle.room.proofs.effect.rule.Reads as reads
+use Rattle.room.proofs.effect.rule.Lts as lts
+use Rattle.layout.proofs.block.Reads as block-reads
+use Rattle.layout.proofs.server.Reads as server-reads
+use Rattle.quorum.proofs.with_mark.Reads as with-mark-reads
+use Rattle.quorum.proofs.without_mark.Reads as without-mark-reads
+use Rattle.room.proofs.effect.blocked.Reads as blocked-reads
+use Rattle.room.proofs.effect.recorded.Reads as recorded-reads
+use Rattle.rules.proofs.bid.Reads as bid-reads
+use Rattle.rules.proofs.finish.Reads as finish-reads
+use Rattle.rules.proofs.offer.Reads as offer-reads
+use Rattle.rules.proofs.read.Reads as read-reads
+use Rattle.rules.proofs.recall.Reads as recall-reads
+use Rattle.rules.proofs.rejoin.Reads as rejoin-reads
+use Rattle.rules.proofs.write.Reads as write-reads
+use native.Mathlib.Omega.{arith}
+use mathlib.Core.Path.{_∙_, sym, ap, subst}
+use Rattle.layout.proofs.PlaceLaws.{base-room}
+use Rattle.room.specs.Judge.{ruled}
+use Rattle.room.proofs.Placed.{Placed, placed}
+
+shared-slice-read-off : tie.Need-shared-slice-read-off
+shared-slice-read-off c =
+    let at-args = c .before .before .args in
+    let at-pre = c .before .before .pre in
+    omega (arith, base-room (at-args .z) (at-pre .0 .fit), at-pre .0 .exact)
+
+enum-known-step : tie.Need-enum-known-step
+enum-known-step c = search needs
+
+server-requires : tie.Need-server-requires
+server-requires c κs =
+    let at-args = c .before .before .before .before .before .args in
+    let at-step = c .before .step in
+    let at-pre = c .before .before .before .before .before .pre in
+    let a = subst (Placed (at-args .z)) (at-step .given .1) (placed (at-args .z) (at-args .step) (at-pre .1)) in (at-pre .0, a .slot, a .server)
+
+offer-requires : tie.Need-offer-requires
+offer-requires c κs = search needs
+
+recorded-requires : tie.Need-recorded-requires
+recorded-requires c κs = search needs
+
+enum-known-step-2 : tie.Need-enum-known-step-2
+enum-known-step-2 c = search needs
+
+server-requires-2 : tie.Need-server-requires-2
+server-requires-2 c κs =
+    let at-args = c .before .before .before .before .before .args in
+    let at-step2 = c .before .step2 in
+    let at-pre = c .before .before .before .before .before .pre in
+    let a = subst (Placed (at-args .z)) (at-step2 .given .1) (placed (at-args .z) (at-args .step) (at-pre .1)) in (at-pre .0, a .slot, a .server)
+
+block-requires : tie.Need-block-requires
+block-requires c κs =
+    let at-args = c .before .before .before .before .before .before .args in
+    let at-step2 = c .before .before .step2 in
+    let at-pre = c .before .before .before .before .before .before .pre in
+    let a = subst (Placed (at-args .z)) (at-step2 .given .1) (placed (at-args .z) (at-args .step) (at-pre .1)) in (at-pre .0, a .slot, a .drive, a .server)
+
+recall-requires : tie.Need-recall-requires
+recall-requires c κs = search needs
+
+recorded-requires-2 : tie.Need-recorded-requires-2
+recorded-requires-2 c κs = search needs
+
+enum-known-step-3 : tie.Need-enum-known-step-3
+enum-known-step-3 c = search needs
+
+server-requires-3 : tie.Need-server-requires-3
+server-requires-3 c κs =
+    let at-args = c .before .before .before .before .before .args in
+    let at-step3 = c .before .step3 in
+    let at-pre = c .before .before .before .before .before .pre in
+    let a = subst (Placed (at-args .z)) (at-step3 .given .1) (placed (at-args .z) (at-args .step) (at-pre .1)) in (at-pre .0, a .slot, a .server)
+
+rejoin-requires : tie.Need-rejoin-requires
+rejoin-requires c κs = search needs
+
+recorded-requires-3 : tie.Need-recorded-requires-3
+recorded-requires-3 c κs = search needs
+
+enum-known-step-4 : tie.Need-enum-known-step-4
+enum-known-step-4 c = search needs
+
+server-requires-4 : tie.Need-server-requires-4
+server-requires-4 c κs =
+    let at-args = c .before .before .before .before .before .args in
+    let at-step4 = c .before .step4 in
+    let at-pre = c .before .before .before .before .before .pre in
+    let a = subst (Placed (at-args .z)) (at-step4 .given .1) (placed (at-args .z) (at-args .step) (at-pre .1)) in (at-pre .0, a .slot, a .server)
+
+bid-requires : tie.Need-bid-requires
+bid-requires c κs = search needs
+
+recorded-requires-4 : tie.Need-recorded-requires-4
+recorded-requires-4 c κs = search needs
+
+enum-known-step-5 : tie.Need-enum-known-step-5
+enum-known-step-5 c = search needs
+
+server-requires-5 : tie.Need-server-requires-5
+server-requires-5 c κs =
+    let at-args = c .before .before .before .before .before .args in
+    let at-step5 = c .before .step5 in
+    let at-pre = c .before .before .before .before .before .pre in
+    let a = subst (Placed (at-args .z)) (at-step5 .given .1) (placed (at-args .z) (at-args .step) (at-pre .1)) in (at-pre .0, a .slot, a .server)
+
+write-requires : tie.Need-write-requires
+write-requires c κs = search needs
+
+blocked-requires : tie.Need-blocked-requires
+blocked-requires c κs = search needs
+
+enum-known-step-6 : tie.Need-enum-known-step-6
+enum-known-step-6 c = search needs
+
+server-requires-6 : tie.Need-server-requires-6
+server-requires-6 c κs =
+    let at-args = c .before .before .before .before .before .args in
+    let at-step6 = c .before .step6 in
+    let at-pre = c .before .before .before .before .before .pre in
+    let a = subst (Placed (at-args .z)) (at-step6 .given .1) (placed (at-args .z) (at-args .step) (at-pre .1)) in (at-pre .0, a .slot, a .server)
+
+block-requires-2 : tie.Need-block-requires-2
+block-requires-2 c κs =
+    let at-args = c .before .before .before .before .before .before .args in
+    let at-step6 = c .before .before .step6 in
+    let at-pre = c .before .before .before .before .before .before .pre in
+    let a = subst (Placed (at-args .z)) (at-step6 .given .1) (placed (at-args .z) (at-args .step) (at-pre .1)) in (at-pre .0, a .slot, a .drive, a .other)
+
+read-requires : tie.Need-read-requires
+read-requires c κs = search needs
+
+recorded-requires-5 : tie.Need-recorded-requires-5
+recorded-requires-5 c κs = search needs
+
+enum-known-step-7 : tie.Need-enum-known-step-7
+enum-known-step-7 c = search needs
+
+server-requires-7 : tie.Need-server-requires-7
+server-requires-7 c κs =
+    let at-args = c .before .before .before .before .before .args in
+    let at-step7 = c .before .step7 in
+    let at-pre = c .before .before .before .before .before .pre in
+    let a = subst (Placed (at-args .z)) (at-step7 .given .1) (placed (at-args .z) (at-args .step) (at-pre .1)) in (at-pre .0, a .slot, a .server)
+
+finish-requires : tie.Need-finish-requires
+finish-requires c κs = search needs
+
+recorded-requires-6 : tie.Need-recorded-requires-6
+recorded-requires-6 c κs = search needs
+
+enum-known-step-8 : tie.Need-enum-known-step-8
+enum-known-step-8 c = search needs
+
+enum-known-step-9 : tie.Need-enum-known-step-9
+enum-known-step-9 c = search needs
+
+cast-with-mark : tie.Need-cast-with-mark
+cast-with-mark c = search needs
+
+with-mark-requires : tie.Need-with-mark-requires
+with-mark-requires c κs = search needs
+
+enum-known-step-10 : tie.Need-enum-known-step-10
+enum-known-step-10 c = search needs
+
+cast-without-mark : tie.Need-cast-without-mark
+cast-without-mark c = search needs
+
+without-mark-requires : tie.Need-without-mark-requires
+without-mark-requires c κs = search needs
+
+returns : tie.Need-returns
+unfolding ruled
+returns c =
+    let at-step = c .before .before .before .before .step in
+    let at-recorded = c .recorded in
+    let at-offer = c .before .offer in
+    let at-server = c .before .before .server in
+    rw (at-step .given .1, at-recorded .ensures, at-offer .ensures, at-server .ensures)
+
+returns-2 : tie.Need-returns-2
+unfolding ruled
+returns-2 c =
+    let at-step2 = c .before .before .before .before .before .step2 in
+    let at-recorded2 = c .recorded2 in
+    let at-recall = c .before .recall in
+    let at-block = c .before .before .block in
+    let at-server2 = c .before .before .before .server2 in
+    rw (at-step2 .given .1, at-recorded2 .ensures, at-recall .ensures, at-block .ensures, at-server2 .ensures)
+
+returns-3 : tie.Need-returns-3
+unfolding ruled
+returns-3 c =
+    let at-step3 = c .before .before .before .before .step3 in
+    let at-recorded3 = c .recorded3 in
+    let at-rejoin = c .before .rejoin in
+    let at-server3 = c .before .before .server3 in
+    rw (at-step3 .given .1, at-recorded3 .ensures, at-rejoin .ensures, at-server3 .ensures)
+
+returns-4 : tie.Need-returns-4
+unfolding ruled
+returns-4 c =
+    let at-step4 = c .before .before .before .before .step4 in
+    let at-recorded4 = c .recorded4 in
+    let at-bid = c .before .bid in
+    let at-server4 = c .before .before .server4 in
+    rw (at-step4 .given .1, at-recorded4 .ensures, at-bid .ensures, at-server4 .ensures)
+
+returns-5 : tie.Need-returns-5
+unfolding ruled
+returns-5 c =
+    let at-step5 = c .before .before .before .before .step5 in
+    let at-blocked = c .blocked in
+    let at-write = c .before .write in
+    let at-server5 = c .before .before .server5 in
+    rw (at-step5 .given .1, at-blocked .ensures, at-write .ensures, at-server5 .ensures)
+
+returns-6 : tie.Need-returns-6
+unfolding ruled
+returns-6 c =
+    let at-step6 = c .before .before .before .before .before .step6 in
+    let at-recorded5 = c .recorded5 in
+    let at-read = c .before .read in
+    let at-block2 = c .before .before .block2 in
+    let at-server6 = c .before .before .before .server6 in
+    rw (at-step6 .given .1, at-recorded5 .ensures, at-read .ensures, at-block2 .ensures, at-server6 .ensures)
+
+returns-7 : tie.Need-returns-7
+unfolding ruled
+returns-7 c =
+    let at-step7 = c .before .before .before .before .step7 in
+    let at-recorded6 = c .recorded6 in
+    let at-finish = c .before .finish in
+    let at-server7 = c .before .before .server7 in
+    rw (at-step7 .given .1, at-recorded6 .ensures, at-finish .ensures, at-server7 .ensures)
+
+returns-8 : tie.Need-returns-8
+unfolding ruled
+returns-8 c =
+    let at-step8 = c .before .step8 in
+    rw (at-step8 .given .1)
+
+returns-9 : tie.Need-returns-9
+unfolding ruled
+returns-9 c =
+    let at-step9 = c .before .before .step9 in
+    let at-with-mark = c .with-mark in
+    rw (at-step9 .given .1, at-with-mark .ensures)
+
+returns-10 : tie.Need-returns-10
+unfolding ruled
+returns-10 c =
+    let at-step10 = c .before .before .step10 in
+    let at-without-mark = c .without-mark in
+    rw (at-step10 .given .1, at-without-mark .ensures)
+
+pub rule-spec : {M : Type 1} → statement M
+rule-spec =
+    tie.close
+    (tie.spec
+    shared-slice-read-off
+    enum-known-step
+    server-requires
+    offer-requires
+    recorded-requires
+    enum-known-step-2
+    server-requires-2
+    block-requires
+    recall-requires
+    recorded-requires-2
+    enum-known-step-3
+    server-requires-3
+    rejoin-requires
+    recorded-requires-3
+    enum-known-step-4
+    server-requires-4
+    bid-requires
+    recorded-requires-4
+    enum-known-step-5
+    server-requires-5
+    write-requires
+    blocked-requires
+    enum-known-step-6
+    server-requires-6
+    block-requires-2
+    read-requires
+    recorded-requires-5
+    enum-known-step-7
+    server-requires-7
+    finish-requires
+    recorded-requires-6
+    enum-known-step-8
+    enum-known-step-9
+    cast-with-mark
+    with-mark-requires
+    enum-known-step-10
+    cast-without-mark
+    without-mark-requires
+    returns
+    returns-2
+    returns-3
+    returns-4
+    returns-5
+    returns-6
+    returns-7
+    returns-8
+    returns-9
+    returns-10)

@@ -1,0 +1,105 @@
+-- `room::stepping::fail` meets its contract: the slots passed so far have the record zeroed.
+use borrow.Author.Needs.{needs}
+use Rattle.room.proofs.stepping.fail.Statement.{statement}
+use Rattle.room.proofs.stepping.fail.Tie as tie
+use Rattle.room.proofs.stepping.fail.Reads as reads
+use Rattle.room.proofs.stepping.fail.Lts as lts
+use Rattle.layout.proofs.server.Reads as server-reads
+use Rattle.layout.proofs.store_server.Reads as store-server-reads
+use Rattle.state.proofs.Server.failed.Reads as failed-reads
+use native.Mathlib.Omega.{arith}
+use native.Mathlib.Numerals.{add-one}
+use Prim.Native.Nat.{ℕ, _+_, _-_, _≤_}
+use mathlib.Core.Path.{_≡_, refl, _∙_, sym, ap, subst}
+use mathlib.Core.List.{List}
+use Rattle.state.specs.Server.{failed}
+use Rattle.state.specs.declared.Server.{Server}
+use Rattle.layout.specs.Places.{Row}
+use Rattle.layout.specs.Cells.{putServer}
+use Rattle.layout.proofs.RoomLaws.{server-row}
+use Rattle.room.specs.Step.{failedBelow}
+
+abbrev Inv-loop : tie.InvT-loop
+Inv-loop room₀ z p s₀ room s = (s ≤ z .slots) × (room ≡ failedBelow z p s room₀) × Row z room
+
+abbrev μ-loop : tie.MeasureT-loop
+μ-loop room₀ z p s₀ room s = z .slots - s
+
+loop-holds : tie.Need-loop-holds Inv-loop μ-loop
+unfolding failedBelow
+loop-holds c =
+    let at-pre = c .before .pre in
+    (omega arith, refl, at-pre .0)
+
+cast-if1 : tie.Need-cast-if1 Inv-loop μ-loop
+cast-if1 c = search needs
+
+server-requires : tie.Need-server-requires Inv-loop μ-loop
+server-requires c κs =
+    let at-loop = c .before .before .before .loop in
+    let at-if1 = c .before .if1 in
+    let at-pre = c .before .before .before .before .before .pre in
+    (at-loop .inv .2, at-if1 .taken, at-pre .1)
+
+failed-requires : tie.Need-failed-requires Inv-loop μ-loop
+failed-requires c κs = search needs
+
+store-server-requires : tie.Need-store-server-requires Inv-loop μ-loop
+store-server-requires c κs =
+    let at-loop = c .before .before .before .before .before .before .loop in
+    let at-if1 = c .before .before .before .before .if1 in
+    let at-pre = c .before .before .before .before .before .before .before .before .pre in
+    (at-loop .inv .2, at-if1 .taken, at-pre .1)
+
+add-s : tie.Need-add-s Inv-loop μ-loop
+add-s c =
+    let at-pre = c .before .before .before .before .before .before .before .before .before .before .before .pre in
+    omega (arith, at-pre .0 .fit)
+
+loop-less : tie.Need-loop-less Inv-loop μ-loop
+loop-less c = omega arith
+
+loop-again : tie.Need-loop-again Inv-loop μ-loop
+unfolding failedBelow
+loop-again c =
+    let at-store-server = c .before .before .store-server in
+    let at-args = c .before .before .before .before .before .before .before .before .before .before .before .args in
+    let at-loop = c .before .before .before .before .before .before .before .before .before .loop in
+    let at-failed = c .before .before .before .before .failed in
+    let stored = at-store-server .ensures ∙ ap (putServer (at-args .z) (at-loop .room) (at-loop .s) (at-args .p)) (at-failed .ensures) in (
+      omega arith,
+      stored
+          ∙ ap (λ (l : List ℕ). putServer (at-args .z) l (at-loop .s) (at-args .p) failed) (at-loop .inv .1)
+          ∙ ap (λ (k : ℕ). failedBelow (at-args .z) (at-args .p) k (at-args .room .now)) (sym (add-one (at-loop .s))),
+      subst (Row (at-args .z)) (sym stored) (server-row (at-args .z) (at-loop .room) (at-loop .inv .2) (at-loop .s) (at-args .p) failed),
+    )
+
+same-length : tie.Need-same-length Inv-loop μ-loop
+same-length c =
+    let at-loop = c .before .before .loop in
+    let at-pre = c .before .before .before .before .pre in
+    at-loop .inv .2 .exact ∙ sym (at-pre .0 .exact)
+
+returns : tie.Need-returns Inv-loop μ-loop
+returns c =
+    let at-loop = c .before .before .loop in
+    let at-args = c .before .before .before .before .args in
+    let e : at-loop .s ≡ at-args .z .slots = omega arith in
+    at-loop .inv .1 ∙ ap (λ (k : ℕ). failedBelow (at-args .z) (at-args .p) k (at-args .room .now)) e
+
+pub fail-spec : {M : Type 1} → statement M
+fail-spec =
+    tie.close
+    (tie.spec
+    Inv-loop
+    μ-loop
+    loop-holds
+    cast-if1
+    server-requires
+    failed-requires
+    store-server-requires
+    add-s
+    loop-less
+    loop-again
+    same-length
+    returns)

@@ -1,0 +1,44 @@
+-- `room::stepping::step` meets its contract: it stores what was judged and answers it.
+use borrow.Author.Needs.{needs}
+use Rattle.room.proofs.stepping.step.Statement.{statement}
+use Rattle.room.proofs.stepping.step.Tie as tie
+use Rattle.room.proofs.stepping.step.Reads as reads
+use Rattle.room.proofs.stepping.step.Lts as lts
+use Rattle.room.proofs.effect.Effect.answer.Reads as answer-reads
+use Rattle.room.proofs.effect.judge.Reads as judge-reads
+use Rattle.room.proofs.stepping.settle.Reads as settle-reads
+use mathlib.Core.Path.{_∙_, ap, subst⁻¹}
+use Rattle.layout.specs.Cells.{sizesOf}
+use Rattle.room.specs.Judge.{answerOf}
+use Rattle.room.specs.Ready.{Ready}
+use Rattle.room.specs.Step.{settled, answered, stepped}
+use Rattle.room.proofs.ReadyLaws.{judged-ready}
+
+judge-requires : tie.Need-judge-requires
+judge-requires c κs = search needs
+
+settle-requires : tie.Need-settle-requires
+settle-requires c κs =
+    let at-args = c .before .before .before .before .args in
+    let at-judge = c .before .judge in
+    subst⁻¹ (Ready (at-args .room .now)) (at-judge .ensures) (judged-ready (at-args .room .now) (at-args .step))
+
+answer-requires : tie.Need-answer-requires
+answer-requires c κs = search needs
+
+same-length : tie.Need-same-length
+same-length c = search needs
+
+returns : tie.Need-returns
+unfolding answered stepped
+returns c =
+    let at-answer = c .answer in
+    let at-judge = c .before .before .before .before .before .judge in
+    let at-settle = c .before .before .before .settle in
+    let at-args = c .before .before .before .before .before .before .before .before .args in (
+      at-answer .ensures ∙ ap answerOf (at-judge .ensures),
+      at-settle .ensures ∙ ap (settled (sizesOf (at-args .room .now)) (at-args .room .now)) (at-judge .ensures),
+    )
+
+pub step-spec : {M : Type 1} → statement M
+step-spec = tie.close (tie.spec judge-requires settle-requires answer-requires same-length returns)

@@ -1,0 +1,46 @@
+// Opening a room in a lent row.
+ghost use mathlib.Core.Path.{_≡_};
+ghost use Rattle.room.specs.Open.{opening, opened};
+ghost use lib.ListN.{length, replicate};
+use state::Sizes;
+
+// What open answers.
+pub enum Opening {
+    Opened,
+    Refused(u32),
+}
+
+// Makes the row a room of these sizes with every cell 0 but the sizes. Refused with 1 where the sizes do not fit and
+// with 2 where the row is not exactly as long as the room; then no cell changes.
+pub fn open(row: &mut [u32], servers: u32, drives: u32, slots: u32) -> Opening
+    ensures { λ r. ⌜ (r ≡ opening (record { servers = servers; drives = drives; slots = slots }) (now (row .entry)))
+        × (now (row .exit) ≡ opened (record { servers = servers; drives = drives; slots = slots }) (now (row .entry))) ⌝ }
+{
+    let z = Sizes {
+        servers,
+        drives,
+        slots,
+    };
+    if !layout::sizes_fit(z) {
+        return Opening::Refused(1);
+    }
+    if row.len() != layout::room_length(z) {
+        return Opening::Refused(2);
+    }
+    clear(row);
+    row[0] = servers;
+    row[1] = drives;
+    row[2] = slots;
+    Opening::Opened
+}
+
+// Makes every cell 0.
+fn clear(row: &mut [u32])
+    ensures { λ r. ⌜ now (row .exit) ≡ replicate (length (now (row .entry))) 0 ⌝ }
+{
+    let mut i = 0;
+    while i < row.len() {
+        row[i] = 0;
+        i += 1;
+    }
+}

@@ -1,0 +1,49 @@
+-- What the invariant gives: all commits of a slot have one command, which was offered there, and every output is one.
+use Prim.Native.Nat.{ℕ, _<_, _≤_}
+use native.Mathlib.Decide.{decLe}
+use native.Mathlib.Omega.{arith}
+use borrow.Author.Tests.{eqb-true}
+use mathlib.Core.Bool.{Bool, true, false}
+use mathlib.Core.List.{List·Memᴰ}
+use mathlib.Core.Path.{_≡_, refl, sym}
+use lib.Dec.{eqb}
+use Rattle.state.specs.Server.{outputOf, pickNumber}
+use Rattle.synod.specs.Slot.{Slot, Config, Ghost, Tried}
+use Rattle.synod.proofs.Ghosts.{Offered, Committed}
+use Rattle.synod.proofs.Invariant.{Invariant}
+
+module _ {c : Config} {g : Ghost} {σ : Slot} (inv : Invariant c g σ) where
+  pub agree : {t u : Tried} → List·Memᴰ t (g .commits) → List·Memᴰ u (g .commits) → t .command ≡ u .command
+  agree {t} {u} m k = by-order (decLe (t .ballot) (u .ballot))
+    where
+      by-order : Dec (t .ballot ≤ u .ballot) → t .command ≡ u .command
+      by-order (yes le) =
+          sym
+          (inv .binding (t .ballot) (t .command) m .only (u .ballot) (u .command)
+          (inv .binding (u .ballot) (u .command) k .proposed) le)
+      by-order (no gt) =
+          inv .binding (u .ballot) (u .command) k .only (t .ballot) (t .command)
+          (inv .binding (t .ballot) (t .command) m .proposed) (omega arith)
+
+  pub valid : {t : Tried} → List·Memᴰ t (g .commits) → (t .command ≡ 0 → ⊥) × Offered g (t .command)
+  valid {t} m =
+      let f = inv .fair (t .ballot) (t .command) (inv .binding (t .ballot) (t .command) m .proposed) in
+      (f .command, f .offered)
+
+-- some commit has the command v
+pub record Settled (g : Ghost) (v : ℕ) : Type 0 where
+  pub ballot : ℕ
+  pub committed : Committed g ballot v
+
+pub output-committed : {c : Config} {g : Ghost} {σ : Slot} → Invariant c g σ → (p : ℕ) → p < c .servers
+    → (outputOf (σ p .own) ≡ 0 → ⊥) → Settled g (outputOf (σ p .own))
+output-committed {c} {g} {σ} inv p lt = by-phase (eqb (σ p .own .phase) 3) refl
+  where
+    by-phase : (b : Bool) → eqb (σ p .own .phase) 3 ≡ b → (pickNumber b (σ p .own .inp) 0 ≡ 0 → ⊥)
+        → Settled g (pickNumber b (σ p .own .inp) 0)
+    by-phase true e h =
+        record {
+          ballot = σ p .own .mbal;
+          committed = inv .each p lt .settled (eqb-true (σ p .own .phase) 3 e);
+        }
+    by-phase false e h = absurd (h refl)

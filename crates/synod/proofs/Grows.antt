@@ -1,0 +1,98 @@
+-- A longer past takes nothing away from what it knew.
+use Prim.Native.Nat.{ℕ}
+use mathlib.Core.List.{List·Memᴰ·tail}
+use mathlib.Core.Path.{_≡_}
+use mathlib.Core.Logic.{_⊎_, inl, inr}
+use Rattle.state.specs.declared.Step.{Step}
+use Rattle.state.specs.declared.Step.the-variants.{Offer, Recall, Rejoin, Bid, Write, Read, Finish, Fail, DriveOff, DriveOn}
+use Rattle.state.specs.declared.Answer.{Answer}
+use Rattle.state.specs.declared.Answer.the-variants as answer
+use Rattle.synod.specs.declared.Ruling.{Ruling}
+use Rattle.synod.specs.declared.Ruling.the-variants.{Refused, Accepted}
+use Rattle.synod.specs.Slot.{Node, Slot, Config, Ghost, withOffer, withProposal, withCommit, heard, noted}
+use Rattle.synod.proofs.Ghosts.{Offered, Proposed, Committed, Known}
+use Rattle.synod.proofs.One.{Sound}
+use Rattle.synod.proofs.Proposals.{Fair}
+use Rattle.synod.proofs.Rivals.{Blocker}
+
+pub record Grows (g h : Ghost) : Type 0 where
+  pub offered : (v : ℕ) → Offered g v → Offered h v
+  pub proposed : (b v : ℕ) → Proposed g b v → Proposed h b v
+  pub committed : (b v : ℕ) → Committed g b v → Committed h b v
+
+same : (g : Ghost) → Grows g g
+same g = record { offered = λ v m. m; proposed = λ b v m. m; committed = λ b v m. m }
+
+pub with-offer : (g : Ghost) (w : ℕ) → Grows g (withOffer w g)
+with-offer g w = record { offered = λ v m. List·Memᴰ·tail m; proposed = λ b v m. m; committed = λ b v m. m }
+
+pub with-proposal : (g : Ghost) (e w : ℕ) → Grows g (withProposal e w g)
+with-proposal g e w = record { offered = λ v m. m; proposed = λ b v m. List·Memᴰ·tail m; committed = λ b v m. m }
+
+pub with-commit : (g : Ghost) (e w : ℕ) → Grows g (withCommit e w g)
+with-commit g e w = record { offered = λ v m. m; proposed = λ b v m. m; committed = λ b v m. List·Memᴰ·tail m }
+
+module _ {g h : Ghost} (more : Grows g h) where
+  pub known-more : {b v : ℕ} → Known g b v → Known h b v
+  known-more (inl e) = inl e
+  known-more {b} {v} (inr m) = inr (more .proposed b v m)
+
+  pub offer-more : {v : ℕ} → (v ≡ 0) ⊎ Offered g v → (v ≡ 0) ⊎ Offered h v
+  offer-more (inl e) = inl e
+  offer-more {v} (inr m) = inr (more .offered v m)
+
+  pub sound-more : {c : Config} {p : ℕ} {n : Node} → Sound c g p n → Sound c h p n
+  sound-more {n = n} s =
+      record {
+        recalled = s .recalled;
+        mine = s .mine;
+        begun = s .begun;
+        seen = s .seen;
+        own-known = known-more (s .own-known);
+        seen-known = known-more (s .seen-known);
+        disk-known = λ d. known-more (s .disk-known d);
+        written-own = s .written-own;
+        read-written = s .read-written;
+        offer-offered = offer-more (s .offer-offered);
+        settled = λ e. more .committed (n .own .mbal) (n .own .inp) (s .settled e);
+      }
+
+  pub fair-more : {c : Config} {b v : ℕ} → Fair c g b v → Fair c h b v
+  fair-more {v = v} f = record { owner = f .owner; command = f .command; offered = more .offered v (f .offered) }
+
+  pub blocker-more : {c : Config} {σ : Slot} {p : ℕ} {n : Node} → Blocker c g σ p n → Blocker c h σ p n
+  blocker-more w =
+      record {
+        ballot = w .ballot;
+        command = w .command;
+        proposed = more .proposed (w .ballot) (w .command) (w .proposed);
+        above = w .above;
+        owner = w .owner;
+        other = w .other;
+        blocks = w .blocks;
+      }
+
+heard-grows : (g : Ghost) (mbal : ℕ) (a : Answer) → Grows g (heard g mbal a)
+unfolding heard
+heard-grows g mbal answer.Done = same g
+heard-grows g mbal (answer.Outbid b) = same g
+heard-grows g mbal (answer.Chosen c) = with-proposal g mbal c
+heard-grows g mbal (answer.Committed c) = with-commit g mbal c
+heard-grows g mbal (answer.Refused n) = same g
+
+-- what a step adds takes nothing away
+pub noted-grows : (g : Ghost) (σ : Slot) (st : Step) (r : Ruling) → Grows g (noted g σ st r)
+unfolding noted
+noted-grows g σ st (Refused n) = same g
+noted-grows g σ (Offer p s c) (Accepted v a) =
+    let x = heard-grows g (σ p .own .mbal) a in
+    record { offered = λ w m. List·Memᴰ·tail (x .offered w m); proposed = x .proposed; committed = x .committed }
+noted-grows g σ (Recall p s d) (Accepted v a) = heard-grows g (σ p .own .mbal) a
+noted-grows g σ (Rejoin p s b) (Accepted v a) = heard-grows g (σ p .own .mbal) a
+noted-grows g σ (Bid p s b) (Accepted v a) = heard-grows g (σ p .own .mbal) a
+noted-grows g σ (Write p s d) (Accepted v a) = heard-grows g (σ p .own .mbal) a
+noted-grows g σ (Read p s d q) (Accepted v a) = heard-grows g (σ p .own .mbal) a
+noted-grows g σ (Finish p s) (Accepted v a) = heard-grows g (σ p .own .mbal) a
+noted-grows g σ (Fail p) (Accepted v a) = heard-grows g (σ p .own .mbal) a
+noted-grows g σ (DriveOff d) (Accepted v a) = same g
+noted-grows g σ (DriveOn d) (Accepted v a) = same g

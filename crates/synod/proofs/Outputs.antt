@@ -1,0 +1,203 @@
+-- What the steps do to every server's output and offer (01, "The one-value machine"): both are told by the step and its
+-- ruling alone. A committed answer comes from a server that had no output.
+use Prim.Native.Nat.{ℕ, _≤_}
+use native.Mathlib.Omega.{arith}
+use borrow.Author.Tests.{ne-eqb}
+use mathlib.Core.Path.{_≡_, refl, sym, _∙_, ap}
+use Rattle.state.specs.declared.Server.{Server}
+use Rattle.state.specs.declared.Step.{Step}
+use Rattle.state.specs.declared.Step.the-variants.{Offer, Recall, Rejoin, Bid, Write, Read, Finish, Fail, DriveOff, DriveOn}
+use Rattle.state.specs.declared.Answer.{Answer}
+use Rattle.state.specs.declared.Answer.the-variants as answer
+use Rattle.state.specs.Answers.{codeOf, numberOf}
+use Rattle.state.specs.Server.{outputOf, offerOf, pickNumber}
+use Rattle.synod.specs.declared.Ruling.{Ruling}
+use Rattle.synod.specs.declared.Ruling.the-variants.{Refused, Accepted}
+use Rattle.synod.specs.Changes.{offering, marking, meeting, topping, recalling, rejoining, bidding, writing, reading, proposing, committing}
+use Rattle.synod.specs.Rules.{offerRule}
+use Rattle.synod.specs.Slot.{Node, Slot, Config, updated, ruled, after}
+use Rattle.synod.proofs.Rulings.{recall-cases, rejoin-cases, bid-cases, write-cases, read-cases, finish-cases}
+use Rattle.synod.proofs.Update.{everywhere, updated-at, updated-map}
+
+-- a committed answer is its server's output
+unfoldable pub told : (ℕ → ℕ) → ℕ → Answer → ℕ → ℕ
+told out p answer.Done = out
+told out p (answer.Outbid b) = out
+told out p (answer.Chosen c) = out
+told out p (answer.Committed c) = updated out p c
+told out p (answer.Refused n) = out
+
+-- the outputs after a step, from those before it
+unfoldable pub outputsAfter : (ℕ → ℕ) → Step → Ruling → ℕ → ℕ
+outputsAfter out st (Refused n) = out
+outputsAfter out (Offer p s c) (Accepted v a) = told out p a
+outputsAfter out (Recall p s d) (Accepted v a) = told out p a
+outputsAfter out (Rejoin p s b) (Accepted v a) = told out p a
+outputsAfter out (Bid p s b) (Accepted v a) = told out p a
+outputsAfter out (Write p s d) (Accepted v a) = told out p a
+outputsAfter out (Read p s d q) (Accepted v a) = told out p a
+outputsAfter out (Finish p s) (Accepted v a) = told out p a
+outputsAfter out (Fail p) (Accepted v a) = updated out p 0
+outputsAfter out (DriveOff d) (Accepted v a) = out
+outputsAfter out (DriveOn d) (Accepted v a) = out
+
+-- the offers after a step, from those before it
+unfoldable pub offersAfter : (ℕ → ℕ) → Step → Ruling → ℕ → ℕ
+offersAfter offer st (Refused n) = offer
+offersAfter offer (Offer p s c) (Accepted v a) = updated offer p c
+offersAfter offer (Recall p s d) (Accepted v a) = offer
+offersAfter offer (Rejoin p s b) (Accepted v a) = offer
+offersAfter offer (Bid p s b) (Accepted v a) = offer
+offersAfter offer (Write p s d) (Accepted v a) = offer
+offersAfter offer (Read p s d q) (Accepted v a) = offer
+offersAfter offer (Finish p s) (Accepted v a) = offer
+offersAfter offer (Fail p) (Accepted v a) = updated offer p 0
+offersAfter offer (DriveOff d) (Accepted v a) = offer
+offersAfter offer (DriveOn d) (Accepted v a) = offer
+
+abbrev pub outputs : Slot → ℕ → ℕ
+outputs σ q = outputOf (σ q .own)
+
+abbrev pub offers : Slot → ℕ → ℕ
+offers σ q = offerOf (σ q .own)
+
+-- only phase 3 has an output
+pub quiet : (v : Server) → v .phase ≤ 2 → outputOf v ≡ 0
+quiet v h = ap (λ t. pickNumber t (v .inp) 0) (ne-eqb (v .phase) 3 (λ e. omega arith))
+
+-- one node changed, and what it shows did not
+unchanged : (f : Server → ℕ) (σ : Slot) (p : ℕ) (m : Node) → f (m .own) ≡ f (σ p .own) → (q : ℕ)
+    → f (updated σ p m q .own) ≡ f (σ q .own)
+unchanged f σ p m e = everywhere (λ q n. f (n .own) ≡ f (σ q .own)) σ p m e (λ q ne. refl)
+
+-- one node changed, and shows x
+changed : (f : Server → ℕ) (σ : Slot) (p : ℕ) (m : Node) (q : ℕ)
+    → f (updated σ p m q .own) ≡ updated (λ r. f (σ r .own)) p (f (m .own)) q
+changed f σ p m q = updated-map (λ n. f (n .own)) σ p m q
+
+-- the outputs are as the step and the ruling r tell
+abbrev TellsOutputs : Slot → Step → ℕ → Ruling → Type 0
+TellsOutputs σ st q r = outputs (after σ st r) q ≡ outputsAfter (outputs σ) st r q
+
+abbrev TellsOffers : Slot → Step → ℕ → Ruling → Type 0
+TellsOffers σ st q r = offers (after σ st r) q ≡ offersAfter (offers σ) st r q
+
+module _ (c : Config) (off : ℕ) (σ : Slot) (q : ℕ) where
+  pub outputs-told : (st : Step) → TellsOutputs σ st q (ruled c off σ st)
+  unfolding ruled after outputsAfter told offerRule offering marking meeting topping recalling rejoining bidding writing reading proposing committing
+  outputs-told (Offer p s v) = unchanged outputOf σ p _ refl q
+  outputs-told (Recall p s d) =
+      recall-cases (TellsOutputs σ (Recall p s d) q) (λ n. refl) (σ p .own) off (σ p .disk d) p d
+      (λ phase. unchanged outputOf σ p _ refl q)
+  outputs-told (Rejoin p s b) =
+      rejoin-cases (TellsOutputs σ (Rejoin p s b) q) (λ n. refl) (σ p .own) (c .servers) (c .drives) p b
+      (λ mine phase most up. unchanged outputOf σ p _ (sym (quiet (σ p .own) (omega arith))) q)
+  outputs-told (Bid p s b) =
+      bid-cases (TellsOutputs σ (Bid p s b) q) (λ n. refl) (σ p .own) (c .servers) p b
+      (λ mine two up. unchanged outputOf σ p _ (sym (quiet (σ p .own) (two .most))) q)
+  outputs-told (Write p s d) =
+      write-cases (TellsOutputs σ (Write p s d) q) (λ n. refl) (σ p .own) off d (λ two. unchanged outputOf σ p _ refl q)
+  outputs-told (Read p s d r) =
+      read-cases (TellsOutputs σ (Read p s d r) q) (λ n. refl) (σ p .own) (c .servers) off (σ r .disk d) p d r
+      (λ two here low. unchanged outputOf σ p _ refl q)
+      (λ b two mine up. unchanged outputOf σ p _ (sym (quiet (σ p .own) (two .most))) q)
+  outputs-told (Finish p s) =
+      finish-cases (TellsOutputs σ (Finish p s) q) (λ n. refl) (σ p .own) (c .servers) (c .drives) p
+      (λ one most some. unchanged outputOf σ p _ (sym (quiet (σ p .own) (omega arith))) q)
+      (λ two most. changed outputOf σ p _ q)
+  outputs-told (Fail p) = changed outputOf σ p _ q
+  outputs-told (DriveOff d) = refl
+  outputs-told (DriveOn d) = refl
+
+  pub offers-told : (st : Step) → TellsOffers σ st q (ruled c off σ st)
+  unfolding ruled after offersAfter offerRule offering marking meeting topping recalling rejoining bidding writing reading proposing committing
+  offers-told (Offer p s v) = changed offerOf σ p _ q
+  offers-told (Recall p s d) =
+      recall-cases (TellsOffers σ (Recall p s d) q) (λ n. refl) (σ p .own) off (σ p .disk d) p d
+      (λ phase. unchanged offerOf σ p _ refl q)
+  offers-told (Rejoin p s b) =
+      rejoin-cases (TellsOffers σ (Rejoin p s b) q) (λ n. refl) (σ p .own) (c .servers) (c .drives) p b
+      (λ mine phase most up. unchanged offerOf σ p _ refl q)
+  offers-told (Bid p s b) =
+      bid-cases (TellsOffers σ (Bid p s b) q) (λ n. refl) (σ p .own) (c .servers) p b
+      (λ mine two up. unchanged offerOf σ p _ refl q)
+  offers-told (Write p s d) =
+      write-cases (TellsOffers σ (Write p s d) q) (λ n. refl) (σ p .own) off d (λ two. unchanged offerOf σ p _ refl q)
+  offers-told (Read p s d r) =
+      read-cases (TellsOffers σ (Read p s d r) q) (λ n. refl) (σ p .own) (c .servers) off (σ r .disk d) p d r
+      (λ two here low. unchanged offerOf σ p _ refl q)
+      (λ b two mine up. unchanged offerOf σ p _ refl q)
+  offers-told (Finish p s) =
+      finish-cases (TellsOffers σ (Finish p s) q) (λ n. refl) (σ p .own) (c .servers) (c .drives) p
+      (λ one most some. unchanged offerOf σ p _ refl q)
+      (λ two most. unchanged offerOf σ p _ refl q)
+  offers-told (Fail p) = changed offerOf σ p _ q
+  offers-told (DriveOff d) = refl
+  offers-told (DriveOn d) = refl
+
+-- 0 for done to 3 for committed, as 01 counts answers; 4 for a refusal
+abbrev wordOf : Ruling → ℕ
+wordOf (Refused n) = 4
+wordOf (Accepted v a) = codeOf a
+
+abbrev commandIn : Ruling → ℕ
+commandIn (Refused n) = 0
+commandIn (Accepted v a) = numberOf a
+
+-- a committed answer with the command x: a Finish by a server without an output, whose output is x from then on
+pub record CommittedBy (σ : Slot) (st : Step) (r : Ruling) (x : ℕ) : Type 0 where
+  pub server : ℕ
+  pub slot : ℕ
+  pub step : st ≡ Finish server slot
+  pub phase : σ server .own .phase ≡ 2
+  pub before : outputs σ server ≡ 0
+  pub afterwards : outputs (after σ st r) server ≡ x
+
+-- if r is committed with x, then as CommittedBy says
+abbrev TellsCommit : Slot → Step → ℕ → Ruling → Type 0
+TellsCommit σ st x r = wordOf r ≡ 3 → commandIn r ≡ x → CommittedBy σ st r x
+
+module _ (c : Config) (off : ℕ) (σ : Slot) (x : ℕ) where
+  finished : (p s : ℕ) → σ p .own .phase ≡ 2 → σ p .own .inp ≡ x
+      → CommittedBy σ (Finish p s) (Accepted (committing (σ p .own)) (answer.Committed (σ p .own .inp))) x
+  unfolding after committing
+  finished p s two same =
+      record {
+        server = p;
+        slot = s;
+        step = refl;
+        phase = two;
+        before = quiet (σ p .own) (omega arith);
+        afterwards = ap (λ n. outputOf (n .own)) (updated-at σ p _) ∙ same;
+      }
+
+  tells-commit : (st : Step) → TellsCommit σ st x (ruled c off σ st)
+  unfolding ruled offerRule
+  tells-commit (Offer p s v) = λ e. absurd (omega arith)
+  tells-commit (Recall p s d) =
+      recall-cases (TellsCommit σ (Recall p s d) x) (λ n e. absurd (omega arith)) (σ p .own) off (σ p .disk d) p d
+      (λ phase e. absurd (omega arith))
+  tells-commit (Rejoin p s b) =
+      rejoin-cases (TellsCommit σ (Rejoin p s b) x) (λ n e. absurd (omega arith)) (σ p .own) (c .servers) (c .drives) p b
+      (λ mine phase most up e. absurd (omega arith))
+  tells-commit (Bid p s b) =
+      bid-cases (TellsCommit σ (Bid p s b) x) (λ n e. absurd (omega arith)) (σ p .own) (c .servers) p b
+      (λ mine two up e. absurd (omega arith))
+  tells-commit (Write p s d) =
+      write-cases (TellsCommit σ (Write p s d) x) (λ n e. absurd (omega arith)) (σ p .own) off d
+      (λ two e. absurd (omega arith))
+  tells-commit (Read p s d r) =
+      read-cases (TellsCommit σ (Read p s d r) x) (λ n e. absurd (omega arith)) (σ p .own) (c .servers) off (σ r .disk d) p d r
+      (λ two here low e. absurd (omega arith))
+      (λ b two mine up e. absurd (omega arith))
+  tells-commit (Finish p s) =
+      finish-cases (TellsCommit σ (Finish p s) x) (λ n e. absurd (omega arith)) (σ p .own) (c .servers) (c .drives) p
+      (λ one most some e. absurd (omega arith))
+      (λ two most e same. finished p s two same)
+  tells-commit (Fail p) = λ e. absurd (omega arith)
+  tells-commit (DriveOff d) = λ e. absurd (omega arith)
+  tells-commit (DriveOn d) = λ e. absurd (omega arith)
+
+  pub committed-by : (st : Step) (v : Server) → ruled c off σ st ≡ Accepted v (answer.Committed x)
+      → CommittedBy σ st (ruled c off σ st) x
+  committed-by st v e = tells-commit st (ap wordOf e) (ap commandIn e)
