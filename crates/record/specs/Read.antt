@@ -1,0 +1,45 @@
+-- What is read from bytes (01, "Step records").
+use Prim.Native.Nat.{ℕ, _+_, _*_, _/_, _%_, _<_}
+use mathlib.Core.Bool.{Bool, true, false}
+use mathlib.Core.List.{List, [], _∷_}
+use lib.Dec.{leb, ltb}
+use lib.ListN.{length, getD, take, drop}
+use Rattle.record.specs.Fields.{stepOf, withValues}
+use Rattle.record.specs.Map.{widths, recordLength, malformed, zeroAmong}
+use Rattle.record.specs.declared.Reading.the-variants.{Decoded, Refused}
+use Rattle.record.specs.declared.Reading.{Reading}
+
+-- every element is below 256 (past the end getD gives 0)
+abbrev pub Bytes : List ℕ → Type 0
+Bytes bytes = (i : ℕ) → getD bytes i 0 < 256
+
+-- the number that bytes stand for, "low first"
+unfoldable pub lowNumber : List ℕ → ℕ
+lowNumber [] = 0
+lowNumber (b ∷ bs) = b + 256 * lowNumber bs
+
+-- the fields from a place on, by a map: each stands where the one before it ends, and one whose bit does not stand is 0
+unfoldable pub valuesAt : List ℕ → ℕ → List ℕ → ℕ → List ℕ
+valuesAt [] map bytes at = []
+valuesAt (w ∷ ws) map bytes at =
+    lowNumber (take (map % 2 * w) (drop at bytes)) ∷ valuesAt ws (map / 2) bytes (at + map % 2 * w)
+
+-- refuses with the number where the test holds
+unfoldable pub refuse : Bool → ℕ → Reading → Reading
+refuse true number rest = Refused number
+refuse false number rest = rest
+
+-- "Its checks: no byte, 14; bits 5 to 7, 15; no kind, 14; unknown kind or a field it lacks, 15; fields short, 14;
+-- a field of 0, 15." "Read answers the step with the length used; bytes beyond are ignored."
+unfoldable pub readingOf : List ℕ → Reading
+readingOf bytes =
+    let map = getD bytes 0 0 in
+    let kind = getD bytes 1 0 in
+    let values = valuesAt widths map bytes 2 in
+    refuse (ltb (length bytes) 1) 14
+    (refuse (leb 32 map) 15
+    (refuse (ltb (length bytes) 2) 14
+    (refuse (malformed map kind) 15
+    (refuse (ltb (length bytes) (recordLength map)) 14
+    (refuse (zeroAmong map values) 15
+    (Decoded (stepOf (withValues kind values)) (recordLength map)))))))

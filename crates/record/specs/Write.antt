@@ -1,0 +1,54 @@
+-- What is written for a step (01, "Step records").
+use Prim.Native.Nat.{ℕ, _*_, _/_, _%_, zero, suc}
+use mathlib.Core.Bool.{Bool, true, false}
+use mathlib.Core.List.{List, [], _∷_, _++_}
+use lib.Dec.{leb}
+use lib.ListN.{length, drop}
+use Rattle.state.specs.declared.Step.{Step}
+use Rattle.record.specs.Fields.{maskOf, fieldsOf, valuesOf}
+use Rattle.record.specs.Map.{widths, mapOf}
+use Rattle.record.specs.declared.Writing.the-variants.{Encoded, Refused}
+use Rattle.record.specs.declared.Writing.{Writing}
+use Rattle.record.specs.declared.fields.Fields.{Fields}
+
+-- a number in so many bytes, "low first"
+unfoldable pub lowFirst : ℕ → ℕ → List ℕ
+lowFirst zero v = []
+lowFirst (suc w) v = v % 256 ∷ lowFirst w (v / 256)
+
+-- "then only the fields whose bit stands"
+unfoldable pub fieldBytes : List ℕ → ℕ → List ℕ → List ℕ
+fieldBytes [] map vs = []
+fieldBytes (w ∷ ws) map [] = []
+fieldBytes (w ∷ ws) map (v ∷ vs) = lowFirst (map % 2 * w) v ++ fieldBytes ws (map / 2) vs
+
+-- "A record is a map byte, a kind byte (1 to 10), then only the fields whose bit stands"
+unfoldable pub bytesOf : ℕ → ℕ → List ℕ → List ℕ
+bytesOf map kind vs = map ∷ kind ∷ fieldBytes widths map vs
+
+unfoldable pub recordOfFields : Fields → List ℕ
+recordOfFields f = bytesOf (mapOf (maskOf (f .kind)) (valuesOf f)) (f .kind) (valuesOf f)
+
+-- the record of a step
+unfoldable pub recordOf : Step → List ℕ
+recordOf step = recordOfFields (fieldsOf step)
+
+abbrev pub pickWriting : Bool → Writing → Writing → Writing
+pickWriting true a b = a
+pickWriting false a b = b
+
+-- "Write answers the length used"; "2 buffer length wrong (record write: too short)"
+unfoldable pub writingOf : Step → List ℕ → Writing
+writingOf step buffer =
+    pickWriting (leb (length (recordOf step)) (length buffer)) (Encoded (length (recordOf step))) (Refused 2)
+
+abbrev pub pickBytes : Bool → List ℕ → List ℕ → List ℕ
+pickBytes true a b = a
+pickBytes false a b = b
+
+-- "and leaves later bytes alone"; a refusal changes none
+unfoldable pub writtenOf : Step → List ℕ → List ℕ
+writtenOf step buffer =
+    pickBytes (leb (length (recordOf step)) (length buffer))
+    (recordOf step ++ drop (length (recordOf step)) buffer)
+    buffer
