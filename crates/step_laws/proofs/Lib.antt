@@ -1,0 +1,4 @@
+-- Laws of the whole step, for every row: what it refuses, that it keeps a room in range, and what it leaves alone.
+pub mod RulesKeep
+pub mod StoresKeep
+pub mod StepKeeps

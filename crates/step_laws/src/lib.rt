@@ -1,0 +1,1 @@
+// Laws of the whole step; there is no code here.
