@@ -2,3 +2,5 @@
 pub mod RulesKeep
 pub mod StoresKeep
 pub mod StepKeeps
+pub mod Seen
+pub mod SlotTie
