@@ -1,0 +1,6 @@
+-- Why the room follows the one-value machine: one slot, one step, the whole list.
+pub mod Firsts
+pub mod SlotMoves
+pub mod StepMoves
+pub mod Answers
+pub mod Moments

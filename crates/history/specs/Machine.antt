@@ -1,0 +1,66 @@
+-- The one-value machine of a slot (01, "The one-value machine"), and what it is to follow a run. A command is never 0,
+-- so 0 stands for none.
+use Prim.Native.Nat.{ℕ, _<_}
+use mathlib.Core.List.{List, [], _∷_, List·Memᴰ}
+use mathlib.Core.Path.{_≡_}
+use Rattle.state.specs.declared.Sizes.{Sizes}
+use Rattle.state.specs.declared.Step.{Step}
+use Rattle.state.specs.Server.{offerOf, outputOf}
+use Rattle.synod.specs.Slot.{updated}
+use Rattle.layout.specs.Cells.{serverOf}
+use Rattle.room.specs.Step.{answered, stepped}
+use Rattle.history.specs.Run.{Event, Move, Offers, Chooses, Fails, Rests, moveOf}
+
+-- "offer and output for each server, given (a set), chosen"
+pub record Machine : Type 0 where
+  pub offers : ℕ → ℕ
+  pub outputs : ℕ → ℕ
+  pub given : List ℕ
+  pub chosen : ℕ
+
+-- "at first all none or empty"
+abbrev pub atFirst : Machine
+atFirst = record { offers = λ p. 0; outputs = λ p. 0; given = []; chosen = 0 }
+
+-- "Offer(p, v): offer of p is v, v joins given"
+abbrev pub withOffer : Machine → ℕ → ℕ → Machine
+withOffer m p v =
+    record { offers = updated (m .offers) p v; outputs = m .outputs; given = v ∷ m .given; chosen = m .chosen }
+
+-- "p's output is chosen"
+abbrev pub withOutput : Machine → ℕ → ℕ → Machine
+withOutput m p v = record { offers = m .offers; outputs = updated (m .outputs) p v; given = m .given; chosen = v }
+
+-- "Fail(p): offer and output of p become none"
+abbrev pub withoutServer : Machine → ℕ → Machine
+withoutServer m p =
+    record { offers = updated (m .offers) p 0; outputs = updated (m .outputs) p 0; given = m .given; chosen = m .chosen }
+
+-- "Choose(p), output of p none: if chosen is none it becomes some member of given; p's output is chosen"
+pub record Chosen (m : Machine) (p : ℕ) (n : Machine) : Type 0 where
+  pub choice : ℕ
+  pub no-output : m .outputs p ≡ 0
+  pub member : m .chosen ≡ 0 → List·Memᴰ choice (m .given)
+  pub keeps : (m .chosen ≡ 0 → ⊥) → choice ≡ m .chosen
+  pub becomes : n ≡ withOutput m p choice
+
+-- the move takes the machine from m to n
+abbrev pub Makes : Move → Machine → Machine → Type 0
+Makes (Offers p v) m n = n ≡ withOffer m p v
+Makes (Chooses p) m n = Chosen m p n
+Makes (Fails p) m n = n ≡ withoutServer m p
+Makes Rests m n = n ≡ m
+
+-- every server's offer and output in slot t equal the machine's
+pub record Equal (z : Sizes) (t : ℕ) (m : Machine) (cells : List ℕ) : Type 0 where
+  pub offers : (p : ℕ) → p < z .servers → offerOf (serverOf z cells t p) ≡ m .offers p
+  pub outputs : (p : ℕ) → p < z .servers → outputOf (serverOf z cells t p) ≡ m .outputs p
+
+-- One path of machine states for the whole list of steps: each step and its answer make a move, and at the start and
+-- after each step the offers and outputs of slot t equal the machine's.
+pub data Follows (z : Sizes) (t : ℕ) : Machine → List ℕ → List Step → Type 0 where
+  ends : {m : Machine} {cells : List ℕ} → Equal z t m cells → Follows z t m cells []
+  goes
+      : {m n : Machine} {cells : List ℕ} {st : Step} {sts : List Step} → Equal z t m cells
+      → Makes (moveOf t st (answered cells st)) m n → Follows z t n (stepped cells st) sts
+      → Follows z t m cells (st ∷ sts)

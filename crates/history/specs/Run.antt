@@ -1,0 +1,101 @@
+-- A run is its history: the list of steps with their answers (01, "The one-value machine"). What 01 reads off a run is
+-- read off this list, never off the cells.
+use Prim.Native.Nat.{ℕ}
+use mathlib.Core.Bool.{Bool, true, false, not, _&&_}
+use mathlib.Core.List.{List, [], _∷_, List·Memᴰ}
+use mathlib.Core.Path.{_≡_}
+use lib.Dec.{eqb}
+use Rattle.state.specs.declared.Answer.{Answer}
+use Rattle.state.specs.declared.Step.{Step}
+use Rattle.state.specs.declared.Step.the-variants.{Offer, Recall, Rejoin, Bid, Write, Read, Finish, Fail, DriveOff, DriveOn}
+use Rattle.state.specs.Answers.{codeOf, numberOf}
+use Rattle.state.specs.Server.{pickNumber}
+use Rattle.room.specs.Step.{answered, stepped}
+
+pub record Event : Type 0 where
+  pub step : Step
+  pub answer : Answer
+
+-- the cells after a list of steps
+unfoldable pub ran : List ℕ → List Step → List ℕ
+ran cells [] = cells
+ran cells (st ∷ sts) = ran (stepped cells st) sts
+
+-- the steps with their answers, in order
+unfoldable pub history : List ℕ → List Step → List Event
+history cells [] = []
+history cells (st ∷ sts) = record { step = st; answer = answered cells st } ∷ history (stepped cells st) sts
+
+-- at the start and after each step
+unfoldable pub Always : (List ℕ → Type 0) → List ℕ → List Step → Type 0
+Always P cells [] = P cells
+Always P cells (st ∷ sts) = P cells × Always P (stepped cells st) sts
+
+-- the words of an answer
+abbrev pub accepted : Answer → Bool
+accepted a = not (eqb (codeOf a) 4)
+
+abbrev pub committed : Answer → Bool
+committed a = eqb (codeOf a) 3
+
+-- the move of a slot's machine
+pub data Move : Type 0 where
+  Offers : ℕ → ℕ → Move
+  Chooses : ℕ → Move
+  Fails : ℕ → Move
+  Rests : Move
+
+abbrev pub pickMove : Bool → Move → Move → Move
+pickMove true a b = a
+pickMove false a b = b
+
+-- a committed answer of server p in slot s is a Choose there
+abbrev pub choosing : ℕ → ℕ → ℕ → Answer → Move
+choosing t s p a = pickMove (committed a && eqb s t) (Chooses p) Rests
+
+-- "Accepted Offer and Fail steps make that move (Offer in the slot named, Fail in every slot), a committed Finish makes
+-- Choose(p) in its slot; any other step, and any refusal, none"
+unfoldable pub moveOf : ℕ → Step → Answer → Move
+moveOf t (Offer p s v) a = pickMove (accepted a && eqb s t) (Offers p v) Rests
+moveOf t (Recall p s d) a = choosing t s p a
+moveOf t (Rejoin p s b) a = choosing t s p a
+moveOf t (Bid p s b) a = choosing t s p a
+moveOf t (Write p s d) a = choosing t s p a
+moveOf t (Read p s d q) a = choosing t s p a
+moveOf t (Finish p s) a = choosing t s p a
+moveOf t (Fail p) a = pickMove (accepted a) (Fails p) Rests
+moveOf t (DriveOff d) a = Rests
+moveOf t (DriveOn d) a = Rests
+
+-- the command with which an answer committed, by the move; 0 where it did not
+abbrev pub outputIn : Move → Answer → ℕ
+outputIn (Offers p v) a = 0
+outputIn (Chooses p) a = numberOf a
+outputIn (Fails p) a = 0
+outputIn Rests a = 0
+
+unfoldable pub outputBy : ℕ → Event → ℕ
+outputBy t e = outputIn (moveOf t (e .step) (e .answer)) (e .answer)
+
+-- the first that is not 0
+abbrev pub orElse : ℕ → ℕ → ℕ
+orElse a b = pickNumber (eqb a 0) b a
+
+-- "the command of the first committed answer there"; 0 where there is none
+unfoldable pub firstOutput : ℕ → List Event → ℕ
+firstOutput t [] = 0
+firstOutput t (e ∷ h) = orElse (outputBy t e) (firstOutput t h)
+
+-- the commands offered so far in a slot, with those that a move offers
+abbrev pub given : Move → List ℕ → List ℕ
+given (Offers p v) l = v ∷ l
+given (Chooses p) l = l
+given (Fails p) l = l
+given Rests l = l
+
+-- every committed answer is with a command that was offered for its slot by an accepted Offer at an earlier step: seen
+-- holds the commands offered before the history begins
+unfoldable pub OfferedEarlier : ℕ → List ℕ → List Event → Type 0
+OfferedEarlier t seen [] = Unit {0}
+OfferedEarlier t seen (e ∷ h) =
+    ((outputBy t e ≡ 0 → ⊥) → List·Memᴰ (outputBy t e) seen) × OfferedEarlier t (given (moveOf t (e .step) (e .answer)) seen) h

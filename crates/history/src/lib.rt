@@ -1,0 +1,1 @@
+// Runs, their histories, and the one-value machine; there is no code here.
