@@ -4,3 +4,5 @@ pub mod SlotMoves
 pub mod StepMoves
 pub mod Answers
 pub mod Moments
+pub mod Opened
+pub mod Runs

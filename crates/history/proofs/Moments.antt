@@ -73,11 +73,11 @@ module _ (limits : List ℕ) (z : Sizes) (cells : List ℕ) (g : ℕ → Ghost) 
       let like = now .alike t l in
       by-test (concerns t st)
       (λ e.
-          rw e
-          (subst
-          (λ (x : Ruling). Alike (configOf z) (after (σ t) st (slot.ruled (configOf z) (offOf cells) (σ t) st)) (after (seen z cells t) st x))
-          (ruled-alike z (offOf cells) like st h)
-          (after-alike like st (slot.ruled (configOf z) (offOf cells) (σ t) st))))
+      rw e
+      (subst
+      (λ (x : Ruling). Alike (configOf z) (after (σ t) st (slot.ruled (configOf z) (offOf cells) (σ t) st)) (after (seen z cells t) st x))
+      (ruled-alike z (offOf cells) like st h)
+      (after-alike like st (slot.ruled (configOf z) (offOf cells) (σ t) st))))
       (λ e. rw e like)
 
   abbrev ghostAfter : Step → ℕ → Ghost
@@ -100,38 +100,38 @@ module _ (limits : List ℕ) (z : Sizes) (cells : List ℕ) (g : ℕ → Ghost) 
   moves-after st h t l =
       by-test (concerns t st)
       (λ e.
-          let same =
-              answer-tie z cells st t e ∙ sym (ap answerBy (ruled-alike z (offOf cells) (now .alike t l) st h)) in
-          rw (e, same) (concerned z (fits-of z fit) (offOf cells) (g t) (σ t) (now .holds t l) st h t e))
+      let same =
+      answer-tie z cells st t e ∙ sym (ap answerBy (ruled-alike z (offOf cells) (now .alike t l) st h)) in
+      rw (e, same) (concerned z (fits-of z fit) (offOf cells) (g t) (σ t) (now .holds t l) st h t e))
       (λ e. rw e (resting t (g t) (σ t) st (answerOf (ruled z cells st)) (unconcerned t st (answerOf (ruled z cells st)) e)))
 
   ruled-next
       : (st : Step) → placesFit z st ≡ true → commandFits limits st ≡ true
       → Next limits z g σ st (answerOf (ruled z cells st)) (settled z cells (ruled z cells st))
   ruled-next st h k =
-      record
-      { ghosts = ghostAfter st
-      ; slots = λ t. afterAt z (offOf cells) t (σ t) st
-      ; moment =
-          record
-          { whole = ruled-kept limits z cells (now .whole) st h k
-          ; alike =
-              λ t l.
+      record {
+        ghosts = ghostAfter st;
+        slots = λ t. afterAt z (offOf cells) t (σ t) st;
+        moment =
+            record {
+              whole = ruled-kept limits z cells (now .whole) st h k;
+              alike =
+                  λ t l.
                   alike-then (configOf z) (afterAt z (offOf cells) t (σ t) st) (afterAt z (offOf cells) t (seen z cells t) st)
                   (seen z (settled z cells (ruled z cells st)) t)
-                  (after-alike-at st h t l) (slot-tie z cells (now .whole .range .row) st h t l)
-          ; holds = holds-after st h
-          }
-      ; moves = moves-after st h
+                  (after-alike-at st h t l) (slot-tie z cells (now .whole .range .row) st h t l);
+              holds = holds-after st h;
+            };
+        moves = moves-after st h;
       }
 
   refused-next : (st : Step) (n : ℕ) → Next limits z g σ st (answer.Refused n) cells
   refused-next st n =
-      record
-      { ghosts = g
-      ; slots = σ
-      ; moment = now
-      ; moves = λ t l. resting t (g t) (σ t) st (answer.Refused n) (refused-rests t st n)
+      record {
+        ghosts = g;
+        slots = σ;
+        moment = now;
+        moves = λ t l. resting t (g t) (σ t) st (answer.Refused n) (refused-rests t st n);
       }
 
 -- a step leads from a moment to the next
@@ -147,5 +147,5 @@ next z cells g σ now st =
     (λ a b. unfold settled in refused-next (limitsOf cells) z cells g σ now st 4)
     (λ a b c. unfold settled in refused-next (limitsOf cells) z cells g σ now st 5)
     (λ a b c.
-        subst (λ (y : Sizes). Next (limitsOf cells) z g σ st (answerOf (ruled y cells st)) (settled z cells (ruled y cells st))) (sym same)
-        (ruled-next (limitsOf cells) z cells g σ now st (ap (λ (y : Sizes). placesFit y st) (sym same) ∙ b) c)))
+    subst (λ (y : Sizes). Next (limitsOf cells) z g σ st (answerOf (ruled y cells st)) (settled z cells (ruled y cells st))) (sym same)
+    (ruled-next (limitsOf cells) z cells g σ now st (ap (λ (y : Sizes). placesFit y st) (sym same) ∙ b) c)))

@@ -43,18 +43,18 @@ quietly
     : (g h : Ghost) (σ τ : Slot) → h .offered ≡ g .offered → h .commits ≡ g .commits
     → ((q : ℕ) → outputs τ q ≡ outputs σ q) → ((q : ℕ) → offers τ q ≡ offers σ q) → Moves g σ Rests 0 h τ
 quietly g h σ τ a b outs offs =
-    record
-    { makes =
-        λ i.
-            record
-            { offers = λ q. offs q i
-            ; outputs = λ q. outs q i
-            ; given = a i
-            ; chosen = firstCommand (b i)
-            }
-    ; first = ap firstCommand b ∙ sym (or-zero (firstCommand (g .commits)))
-    ; hears = a
-    ; early = λ n. absurd (n refl)
+    record {
+      makes =
+          λ i.
+          record {
+            offers = λ q. offs q i;
+            outputs = λ q. outs q i;
+            given = a i;
+            chosen = firstCommand (b i);
+          };
+      first = ap firstCommand b ∙ sym (or-zero (firstCommand (g .commits)));
+      hears = a;
+      early = λ n. absurd (n refl);
     }
 
 -- a commit is a Choose: the server had no output, and the command is the one chosen before or a member of given
@@ -66,21 +66,21 @@ commits c g σ τ p b y inv none outs offs =
     let this = valid inv {t = tried b y} (List·Memᴰ·head refl) in
     let all : (t : Tried) → List·Memᴰ t (tried b y ∷ g .commits) → t .command ≡ y = λ t m. agree inv m (List·Memᴰ·head refl) in
     let now = first-of (tried b y ∷ g .commits) y (this .0) all (tried b y) (List·Memᴰ·head refl) in
-    record
-    { makes =
-        record
-        { choice = y
-        ; no-output = none
-        ; member = λ e. this .1
-        ; keeps =
-            λ n. sym now ∙ or-some (firstCommand (g .commits)) y n
-        ; becomes =
-            λ i.
-                record { offers = λ q. offs q i; outputs = λ q. outs q i; given = g .offered; chosen = now i }
-        }
-    ; first = refl
-    ; hears = refl
-    ; early = λ n. this .1
+    record {
+      makes =
+          record {
+            choice = y;
+            no-output = none;
+            member = λ e. this .1;
+            keeps =
+                λ n. sym now ∙ or-some (firstCommand (g .commits)) y n;
+            becomes =
+                λ i.
+                record { offers = λ q. offs q i; outputs = λ q. outs q i; given = g .offered; chosen = now i };
+          };
+      first = refl;
+      hears = refl;
+      early = λ n. this .1;
     }
 
 -- a step whose ruling is accepted with the answer a, by server p

@@ -91,7 +91,7 @@ module _ (c : Config) (off : ℕ) (g : Ghost) (σ : Slot) where
       → ((q : ℕ) → outputs (after σ st x) q ≡ outputsAfter (outputs σ) st x q)
       → ((q : ℕ) → offers (after σ st x) q ≡ offersAfter (offers σ) st x q)
       → Moves g σ (pickMove (committed (answerBy x) && true) (Chooses (serverIn st)) Rests)
-          (outputIn (pickMove (committed (answerBy x) && true) (Chooses (serverIn st)) Rests) (answerBy x)) (noted g σ st x) (after σ st x)
+      (outputIn (pickMove (committed (answerBy x) && true) (Chooses (serverIn st)) Rests) (answerBy x)) (noted g σ st x) (after σ st x)
   listened st l (Refused n) e inv outs offs = unfold noted after in rests g σ
   listened st l (Accepted v a) e inv outs offs =
       let p = serverIn st in
@@ -99,8 +99,8 @@ module _ (c : Config) (off : ℕ) (g : Ghost) (σ : Slot) where
       (listens c g σ (after σ st (Accepted v a)) p (σ p .own .mbal) a
       (rw (l .notes g σ v a) at inv)
       (λ k.
-          let by = committed-by c off σ (numberOf a) st v (e ∙ ap (Accepted v) (committed-is a k)) in
-          ap (λ (s : Step). outputs σ (serverIn s)) (by .step) ∙ by .before)
+      let by = committed-by c off σ (numberOf a) st v (e ∙ ap (Accepted v) (committed-is a k)) in
+      ap (λ (s : Step). outputs σ (serverIn s)) (by .step) ∙ by .before)
       (λ q. outs q ∙ ap (λ (f : ℕ → ℕ). f q) (l .outs (outputs σ) v a))
       (λ q. offs q ∙ ap (λ (f : ℕ → ℕ). f q) (l .offs (offers σ) v a)))
 
@@ -110,44 +110,44 @@ module _ (c : Config) (off : ℕ) (g : Ghost) (σ : Slot) where
       → Moves g σ (Offers p v) 0 (noted g σ (Offer p s v) (ruled c off σ (Offer p s v))) (after σ (Offer p s v) (ruled c off σ (Offer p s v)))
   unfolding ruled offerRule noted heard outputsAfter told offersAfter
   offered p s v =
-      record
-      { makes =
-          λ i.
-              record
-              { offers = λ q. offers-told c off σ q (Offer p s v) i
-              ; outputs = λ q. outputs-told c off σ q (Offer p s v) i
-              ; given = v ∷ g .offered
-              ; chosen = firstCommand (g .commits)
-              }
-      ; first = sym (or-zero (firstCommand (g .commits)))
-      ; hears = refl
-      ; early = λ n. absurd (n refl)
+      record {
+        makes =
+            λ i.
+            record {
+              offers = λ q. offers-told c off σ q (Offer p s v) i;
+              outputs = λ q. outputs-told c off σ q (Offer p s v) i;
+              given = v ∷ g .offered;
+              chosen = firstCommand (g .commits);
+            };
+        first = sym (or-zero (firstCommand (g .commits)));
+        hears = refl;
+        early = λ n. absurd (n refl);
       }
 
   failed
       : (p : ℕ) → Moves g σ (Fails p) 0 (noted g σ (Fail p) (ruled c off σ (Fail p))) (after σ (Fail p) (ruled c off σ (Fail p)))
   unfolding ruled noted heard outputsAfter offersAfter
   failed p =
-      record
-      { makes =
-          λ i.
-              record
-              { offers = λ q. offers-told c off σ q (Fail p) i
-              ; outputs = λ q. outputs-told c off σ q (Fail p) i
-              ; given = g .offered
-              ; chosen = firstCommand (g .commits)
-              }
-      ; first = sym (or-zero (firstCommand (g .commits)))
-      ; hears = refl
-      ; early = λ n. absurd (n refl)
+      record {
+        makes =
+            λ i.
+            record {
+              offers = λ q. offers-told c off σ q (Fail p) i;
+              outputs = λ q. outputs-told c off σ q (Fail p) i;
+              given = g .offered;
+              chosen = firstCommand (g .commits);
+            };
+        first = sym (or-zero (firstCommand (g .commits)));
+        hears = refl;
+        early = λ n. absurd (n refl);
       }
 
 module _ (z : Sizes) (fits : Fits (configOf z)) (off : ℕ) (g : Ghost) (σ : Slot) (inv : Invariant (configOf z) g σ) where
   listener
       : (st : Step) (s t : ℕ) → Listener st → placesFit z st ≡ true → eqb s t ≡ true
       → Moves g σ (pickMove (committed (answerBy (ruled (configOf z) off σ st)) && eqb s t) (Chooses (serverIn st)) Rests)
-          (outputIn (pickMove (committed (answerBy (ruled (configOf z) off σ st)) && eqb s t) (Chooses (serverIn st)) Rests) (answerBy (ruled (configOf z) off σ st)))
-          (noted g σ st (ruled (configOf z) off σ st)) (after σ st (ruled (configOf z) off σ st))
+      (outputIn (pickMove (committed (answerBy (ruled (configOf z) off σ st)) && eqb s t) (Chooses (serverIn st)) Rests) (answerBy (ruled (configOf z) off σ st)))
+      (noted g σ st (ruled (configOf z) off σ st)) (after σ st (ruled (configOf z) off σ st))
   listener st s t l h e =
       rw e
       (listened (configOf z) off g σ st l (ruled (configOf z) off σ st) refl (kept z fits off inv st h)

@@ -1,7 +1,7 @@
 // The cells of a room: where each part stands, and how records and blocks are read and stored.
 ghost use mathlib.Core.Path.{_≡_};
 ghost use Prim.Native.Nat.{_+_, _<_, _≤_};
-ghost use lib.ListN.{length};
+ghost use lib.ListN.{length, replicate};
 ghost use Rattle.layout.specs.Places.{Fit, Row, sizesFit, slotLength, roomLength, slotAt, serverAt, blockAt};
 ghost use Rattle.layout.specs.Cells.{sizesOf, serverIn, blockIn, serverOf, blockOf, put, serverCells, blockCells, putServer, putBlock};
 use state::Block;
@@ -144,4 +144,15 @@ pub fn store_block(room: &mut [u32], z: Sizes, s: u8, d: u8, p: u8, b: Block)
     room[at] = b.mbal;
     room[at + 1] = b.bal;
     room[at + 2] = b.inp;
+}
+
+// Makes every cell 0.
+pub fn clear(row: &mut [u32])
+    ensures { λ r. ⌜ now (row .exit) ≡ replicate (length (now (row .entry))) 0 ⌝ }
+{
+    let mut i = 0;
+    while i < row.len() {
+        row[i] = 0;
+        i += 1;
+    }
 }

@@ -58,17 +58,17 @@ server-says limits k v e =
     let e4 = and-left (a && b && c && d) f e5 in
     let e3 = and-left (a && b && c) d e4 in
     let e2 = and-left (a && b) c e3 in
-    record
-    { phase = leb-true (v .phase) 3 (and-left a b e2)
-    ; mbal = leb-true (v .mbal) limit (and-right a b e2)
-    ; bal = leb-true (v .bal) limit (and-right (a && b) c e3)
-    ; top = leb-true (v .top) limit (and-right (a && b && c) d e4)
-    ; seenbal = leb-true (v .seenbal) limit (and-right (a && b && c && d) f e5)
-    ; written = and-right (a && b && c && d && f) g e6
-    ; read = and-right (a && b && c && d && f && g) h e7
-    ; inp = and-right numbers i e8
-    ; offer = and-right (numbers && i) o e9
-    ; seeninp = and-right (numbers && i && o) n e
+    record {
+      phase = leb-true (v .phase) 3 (and-left a b e2);
+      mbal = leb-true (v .mbal) limit (and-right a b e2);
+      bal = leb-true (v .bal) limit (and-right (a && b) c e3);
+      top = leb-true (v .top) limit (and-right (a && b && c) d e4);
+      seenbal = leb-true (v .seenbal) limit (and-right (a && b && c && d) f e5);
+      written = and-right (a && b && c && d && f) g e6;
+      read = and-right (a && b && c && d && f && g) h e7;
+      inp = and-right numbers i e8;
+      offer = and-right (numbers && i) o e9;
+      seeninp = and-right (numbers && i && o) n e;
     }
 
 pub says-server : (limits : List ℕ) (k : Masks) (v : Server) → ServerIn limits k v → serverFits limits k v ≡ true
@@ -94,10 +94,10 @@ block-says limits b e =
     let c = ballotFits (b .bal) in
     let v = valueFits limits (b .inp) in
     let front = and-left (m && c) v e in
-    record
-    { mbal = leb-true (b .mbal) limit (and-left m c front)
-    ; bal = leb-true (b .bal) limit (and-right m c front)
-    ; inp = and-right (m && c) v e
+    record {
+      mbal = leb-true (b .mbal) limit (and-left m c front);
+      bal = leb-true (b .bal) limit (and-right m c front);
+      inp = and-right (m && c) v e;
     }
 
 pub says-block : (limits : List ℕ) (b : Block) → BlockIn limits b → blockFits limits b ≡ true
@@ -132,5 +132,5 @@ read-legal z f d q h l =
     let low : (4 * d + q) % 4 ≡ q = omega arith in
     stands-gathered 32 (λ i. ltb (i / 4) (z .drives) && ltb (i % 4) (z .servers)) (4 * d + q) (omega arith)
     ∙ and-intro (ltb ((4 * d + q) / 4) (z .drives)) (ltb ((4 * d + q) % 4) (z .servers))
-        (ap (λ (x : ℕ). ltb x (z .drives)) high ∙ lt-ltb d (z .drives) h)
-        (ap (λ (x : ℕ). ltb x (z .servers)) low ∙ lt-ltb q (z .servers) l)
+    (ap (λ (x : ℕ). ltb x (z .drives)) high ∙ lt-ltb d (z .drives) h)
+    (ap (λ (x : ℕ). ltb x (z .servers)) low ∙ lt-ltb q (z .servers) l)

@@ -1,7 +1,6 @@
 // Opening a room in a lent row.
 ghost use mathlib.Core.Path.{_≡_};
 ghost use Rattle.room.specs.Open.{opening, opened};
-ghost use lib.ListN.{length, replicate};
 use state::Sizes;
 
 // What open answers.
@@ -27,20 +26,9 @@ pub fn open(row: &mut [u32], servers: u32, drives: u32, slots: u32) -> Opening
     if row.len() != layout::room_length(z) {
         return Opening::Refused(2);
     }
-    clear(row);
+    layout::clear(row);
     row[0] = servers;
     row[1] = drives;
     row[2] = slots;
     Opening::Opened
-}
-
-// Makes every cell 0.
-fn clear(row: &mut [u32])
-    ensures { λ r. ⌜ now (row .exit) ≡ replicate (length (now (row .entry))) 0 ⌝ }
-{
-    let mut i = 0;
-    while i < row.len() {
-        row[i] = 0;
-        i += 1;
-    }
 }

@@ -39,17 +39,17 @@ pick-value limits false a b h k = k
 -- a record as clear leaves it
 abbrev begun : ℕ → ℕ → ℕ → ℕ → ℕ → Server
 begun phase mbal bal inp offer =
-    record
-    { phase = phase
-    ; mbal = mbal
-    ; bal = bal
-    ; inp = inp
-    ; offer = offer
-    ; top = 0
-    ; seenbal = bal
-    ; seeninp = inp
-    ; written = 0
-    ; read = 0
+    record {
+      phase = phase;
+      mbal = mbal;
+      bal = bal;
+      inp = inp;
+      offer = offer;
+      top = 0;
+      seenbal = bal;
+      seeninp = inp;
+      written = 0;
+      read = 0;
     }
 
 module _ (limits : List ℕ) (z : Sizes) where
@@ -58,17 +58,17 @@ module _ (limits : List ℕ) (z : Sizes) where
       : (phase mbal bal inp offer : ℕ) → phase ≤ 3 → mbal ≤ limit → bal ≤ limit → valueFits limits inp ≡ true
       → valueFits limits offer ≡ true → ServerIn limits (masksOf z) (begun phase mbal bal inp offer)
   fresh phase mbal bal inp offer a b c d e =
-      record
-      { phase = a
-      ; mbal = b
-      ; bal = c
-      ; top = omega arith
-      ; seenbal = c
-      ; written = within-zero (masksOf z .drives)
-      ; read = within-zero (masksOf z .reads)
-      ; inp = d
-      ; offer = e
-      ; seeninp = d
+      record {
+        phase = a;
+        mbal = b;
+        bal = c;
+        top = omega arith;
+        seenbal = c;
+        written = within-zero (masksOf z .drives);
+        read = within-zero (masksOf z .reads);
+        inp = d;
+        offer = e;
+        seeninp = d;
       }
 
   pub failed-in : ServerIn limits (masksOf z) failed
@@ -80,17 +80,17 @@ module _ (limits : List ℕ) (z : Sizes) where
   meeting-in : (v : Server) (b : Block) → ServerIn limits (masksOf z) v → BlockIn limits b → ServerIn limits (masksOf z) (meeting v b)
   unfolding meeting
   meeting-in v b s t =
-      record
-      { phase = s .phase
-      ; mbal = s .mbal
-      ; bal = s .bal
-      ; top = s .top
-      ; seenbal = pick-most (ltb (v .seenbal) (b .bal)) (b .bal) (v .seenbal) limit (t .bal) (s .seenbal)
-      ; written = s .written
-      ; read = s .read
-      ; inp = s .inp
-      ; offer = s .offer
-      ; seeninp = pick-value limits (ltb (v .seenbal) (b .bal)) (b .inp) (v .seeninp) (t .inp) (s .seeninp)
+      record {
+        phase = s .phase;
+        mbal = s .mbal;
+        bal = s .bal;
+        top = s .top;
+        seenbal = pick-most (ltb (v .seenbal) (b .bal)) (b .bal) (v .seenbal) limit (t .bal) (s .seenbal);
+        written = s .written;
+        read = s .read;
+        inp = s .inp;
+        offer = s .offer;
+        seeninp = pick-value limits (ltb (v .seenbal) (b .bal)) (b .inp) (v .seeninp) (t .inp) (s .seeninp);
       }
 
   bidding-in : (v : Server) (b : ℕ) → ServerIn limits (masksOf z) v → b ≤ limit → ServerIn limits (masksOf z) (bidding v b)
@@ -101,17 +101,17 @@ module _ (limits : List ℕ) (z : Sizes) where
     marking-in : (d q : ℕ) → d < z .drives → q < z .servers → ServerIn limits (masksOf z) (marking v d q)
     unfolding marking
     marking-in d q h l =
-        record
-        { phase = s .phase
-        ; mbal = s .mbal
-        ; bal = s .bal
-        ; top = s .top
-        ; seenbal = s .seenbal
-        ; written = s .written
-        ; read = within-marked (v .read) (masksOf z .reads) (readBit d q) (s .read) (read-legal z fit d q h l)
-        ; inp = s .inp
-        ; offer = s .offer
-        ; seeninp = s .seeninp
+        record {
+          phase = s .phase;
+          mbal = s .mbal;
+          bal = s .bal;
+          top = s .top;
+          seenbal = s .seenbal;
+          written = s .written;
+          read = within-marked (v .read) (masksOf z .reads) (readBit d q) (s .read) (read-legal z fit d q h l);
+          inp = s .inp;
+          offer = s .offer;
+          seeninp = s .seeninp;
         }
 
     recalling-in
@@ -121,34 +121,34 @@ module _ (limits : List ℕ) (z : Sizes) where
     recalling-in b p d t h l =
         let m = marking-in d p h l in
         meeting-in (topping (marking v d p) (b .mbal)) b
-        (record
-        { phase = m .phase
-        ; mbal = m .mbal
-        ; bal = m .bal
-        ; top = omega (arith, m .top, t .mbal)
-        ; seenbal = m .seenbal
-        ; written = m .written
-        ; read = m .read
-        ; inp = m .inp
-        ; offer = m .offer
-        ; seeninp = m .seeninp
+        (record {
+          phase = m .phase;
+          mbal = m .mbal;
+          bal = m .bal;
+          top = omega (arith, m .top, t .mbal);
+          seenbal = m .seenbal;
+          written = m .written;
+          read = m .read;
+          inp = m .inp;
+          offer = m .offer;
+          seeninp = m .seeninp;
         })
         t
 
     pub offer-keeps : (c : ℕ) → isCommand limits c ≡ true → Keeps limits z (offerRule v c)
     unfolding offerRule offering
     offer-keeps c e =
-        record
-        { phase = s .phase
-        ; mbal = s .mbal
-        ; bal = s .bal
-        ; top = s .top
-        ; seenbal = s .seenbal
-        ; written = s .written
-        ; read = s .read
-        ; inp = s .inp
-        ; offer = command-fits limits c e
-        ; seeninp = s .seeninp
+        record {
+          phase = s .phase;
+          mbal = s .mbal;
+          bal = s .bal;
+          top = s .top;
+          seenbal = s .seenbal;
+          written = s .written;
+          read = s .read;
+          inp = s .inp;
+          offer = command-fits limits c e;
+          seeninp = s .seeninp;
         }
 
     pub recall-keeps
@@ -171,18 +171,18 @@ module _ (limits : List ℕ) (z : Sizes) where
     write-keeps off d h =
         write-cases (Keeps limits z) (λ n. tt) v off d
         (λ e.
-            record
-            { phase = s .phase
-            ; mbal = s .mbal
-            ; bal = s .bal
-            ; top = s .top
-            ; seenbal = s .seenbal
-            ; written = within-marked (v .written) (masksOf z .drives) d (s .written) (drive-legal z fit d h)
-            ; read = s .read
-            ; inp = s .inp
-            ; offer = s .offer
-            ; seeninp = s .seeninp
-            })
+        record {
+          phase = s .phase;
+          mbal = s .mbal;
+          bal = s .bal;
+          top = s .top;
+          seenbal = s .seenbal;
+          written = within-marked (v .written) (masksOf z .drives) d (s .written) (drive-legal z fit d h);
+          read = s .read;
+          inp = s .inp;
+          offer = s .offer;
+          seeninp = s .seeninp;
+        })
 
     pub read-keeps
         : (servers off : ℕ) (b : Block) (p d q : ℕ) → BlockIn limits b → d < z .drives → q < z .servers
@@ -198,6 +198,6 @@ module _ (limits : List ℕ) (z : Sizes) where
     finish-keeps servers drives p =
         finish-cases (Keeps limits z) (λ n. tt) v servers drives p
         (λ e m n.
-            fresh 2 (v .mbal) (v .mbal) (commandOf v) (v .offer) (omega arith) (s .mbal) (s .mbal)
-            (pick-value limits (eqb (v .seeninp) 0) (v .offer) (v .seeninp) (s .offer) (s .seeninp)) (s .offer))
+        fresh 2 (v .mbal) (v .mbal) (commandOf v) (v .offer) (omega arith) (s .mbal) (s .mbal)
+        (pick-value limits (eqb (v .seeninp) 0) (v .offer) (v .seeninp) (s .offer) (s .seeninp)) (s .offer))
         (λ e m. fresh 3 (v .mbal) (v .bal) (v .inp) (v .offer) (omega arith) (s .mbal) (s .bal) (s .inp) (s .offer))

@@ -28,59 +28,59 @@ module _ (z : Sizes) (r : List ℕ) (row : Row z r) where
       everywhere (λ q n. q < z .servers → Same (configOf z) n (seen z (putServer z r s p v) s q)) (seen z r s) p
       (withRecord (seen z r s p) v)
       (λ m.
-          record
-          { own = sym (server-after-server z r row s p v h l)
-          ; disk = λ d k. sym (block-after-server z r row s p v s d p l k l)
-          })
+      record {
+        own = sym (server-after-server z r row s p v h l);
+        disk = λ d k. sym (block-after-server z r row s p v s d p l k l);
+      })
       (λ q n m.
-          record
-          { own = sym (other-server-after-server z r row s p v s q l m (λ a b. n (sym b)))
-          ; disk = λ d k. sym (block-after-server z r row s p v s d q l k m)
-          })
+      record {
+        own = sym (other-server-after-server z r row s p v s q l m (λ a b. n (sym b)));
+        disk = λ d k. sym (block-after-server z r row s p v s d q l k m);
+      })
 
   pub record-elsewhere
       : (s p : ℕ) (v : Server) (t : ℕ) → p < z .servers → (s ≡ t → ⊥)
       → Alike (configOf z) (seen z r t) (seen z (putServer z r s p v) t)
   record-elsewhere s p v t l n q m =
-      record
-      { own = sym (other-server-after-server z r row s p v t q l m (λ a b. n a))
-      ; disk = λ d k. sym (block-after-server z r row s p v t d q l k m)
+      record {
+        own = sym (other-server-after-server z r row s p v t q l m (λ a b. n a));
+        disk = λ d k. sym (block-after-server z r row s p v t d q l k m);
       }
 
   -- a block is stored after its server's record
   pub block-here
       : (s d p : ℕ) (v : Server) → s < z .slots → d < z .drives → p < z .servers
       → Alike (configOf z) (updated (seen z r s) p (withBlock (seen z r s p) d v))
-          (seen z (putBlock z (putServer z r s p v) s d p (ownBlock v)) s)
+      (seen z (putBlock z (putServer z r s p v) s d p (ownBlock v)) s)
   block-here s d p v h g l =
       let r2 = putServer z r s p v in
       let row2 = server-row z r row s p v in
       everywhere (λ q n. q < z .servers → Same (configOf z) n (seen z (putBlock z r2 s d p (ownBlock v)) s q)) (seen z r s) p
       (withBlock (seen z r s p) d v)
       (λ m.
-          record
-          { own = sym (server-after-block z r2 row2 s d p (ownBlock v) s p l g l ∙ server-after-server z r row s p v h l)
-          ; disk =
-              everywhere (λ e b. e < z .drives → b ≡ blockOf z (putBlock z r2 s d p (ownBlock v)) s e p) (seen z r s p .disk) d
-              (ownBlock v)
-              (λ k. sym (block-after-block z r2 row2 s d p (ownBlock v) h g l))
-              (λ e n k.
-                  sym
-                  (other-block-after-block z r2 row2 s d p (ownBlock v) s e p g l k l (λ a b c. n (sym b))
-                  ∙ block-after-server z r row s p v s e p l k l))
-          })
+      record {
+        own = sym (server-after-block z r2 row2 s d p (ownBlock v) s p l g l ∙ server-after-server z r row s p v h l);
+        disk =
+            everywhere (λ e b. e < z .drives → b ≡ blockOf z (putBlock z r2 s d p (ownBlock v)) s e p) (seen z r s p .disk) d
+            (ownBlock v)
+            (λ k. sym (block-after-block z r2 row2 s d p (ownBlock v) h g l))
+            (λ e n k.
+            sym
+            (other-block-after-block z r2 row2 s d p (ownBlock v) s e p g l k l (λ a b c. n (sym b))
+            ∙ block-after-server z r row s p v s e p l k l));
+      })
       (λ q n m.
-          record
-          { own =
-              sym
-              (server-after-block z r2 row2 s d p (ownBlock v) s q m g l
-              ∙ other-server-after-server z r row s p v s q l m (λ a b. n (sym b)))
-          ; disk =
-              λ e k.
-                  sym
-                  (other-block-after-block z r2 row2 s d p (ownBlock v) s e q g l k m (λ a b c. n (sym c))
-                  ∙ block-after-server z r row s p v s e q l k m)
-          })
+      record {
+        own =
+            sym
+            (server-after-block z r2 row2 s d p (ownBlock v) s q m g l
+            ∙ other-server-after-server z r row s p v s q l m (λ a b. n (sym b)));
+        disk =
+            λ e k.
+            sym
+            (other-block-after-block z r2 row2 s d p (ownBlock v) s e q g l k m (λ a b c. n (sym c))
+            ∙ block-after-server z r row s p v s e q l k m);
+      })
 
   pub block-elsewhere
       : (s d p : ℕ) (v : Server) (t : ℕ) → d < z .drives → p < z .servers → (s ≡ t → ⊥)
@@ -88,16 +88,16 @@ module _ (z : Sizes) (r : List ℕ) (row : Row z r) where
   block-elsewhere s d p v t g l n q m =
       let r2 = putServer z r s p v in
       let row2 = server-row z r row s p v in
-      record
-      { own =
-          sym
-          (server-after-block z r2 row2 s d p (ownBlock v) t q m g l
-          ∙ other-server-after-server z r row s p v t q l m (λ a b. n a))
-      ; disk =
-          λ e k.
-              sym
-              (other-block-after-block z r2 row2 s d p (ownBlock v) t e q g l k m (λ a b c. n a)
-              ∙ block-after-server z r row s p v t e q l k m)
+      record {
+        own =
+            sym
+            (server-after-block z r2 row2 s d p (ownBlock v) t q m g l
+            ∙ other-server-after-server z r row s p v t q l m (λ a b. n a));
+        disk =
+            λ e k.
+            sym
+            (other-block-after-block z r2 row2 s d p (ownBlock v) t e q g l k m (λ a b c. n a)
+            ∙ block-after-server z r row s p v t e q l k m);
       }
 
   -- the off marks are no slot's
@@ -152,12 +152,12 @@ module _ (z : Sizes) (r : List ℕ) (row : Row z r) where
       everywhere (λ q n. q < z .servers → Same (configOf z) n (seen z (failedBelow z p (z .slots) r) t q)) (seen z r t) p
       (withRecord (seen z r t p) failed)
       (λ m.
-          record
-          { own = sym (fail-own p (z .slots) t l (omega arith) h)
-          ; disk = λ d k. sym (fail-blocks p (z .slots) t d p l k m)
-          })
+      record {
+        own = sym (fail-own p (z .slots) t l (omega arith) h);
+        disk = λ d k. sym (fail-blocks p (z .slots) t d p l k m);
+      })
       (λ q n m.
-          record
-          { own = sym (fail-others p (z .slots) t q l m n)
-          ; disk = λ d k. sym (fail-blocks p (z .slots) t d q l k m)
-          })
+      record {
+        own = sym (fail-others p (z .slots) t q l m n);
+        disk = λ d k. sym (fail-blocks p (z .slots) t d q l k m);
+      })

@@ -113,10 +113,10 @@ module _ (z : Sizes) (r : List ℕ) (row : Row z r) where
       rw e
       (by-test (eqb s t)
       (λ same.
-          rw same
-          (subst
-          (λ (u : ℕ). Alike (configOf z) (after (seen z r u) st (slot.ruled (configOf z) (offOf r) (seen z r u) st)) (seen z cells u))
-          (eqb-true s t same) here))
+      rw same
+      (subst
+      (λ (u : ℕ). Alike (configOf z) (after (seen z r u) st (slot.ruled (configOf z) (offOf r) (seen z r u) st)) (seen z cells u))
+      (eqb-true s t same) here))
       (λ other. rw other (apart (eqb-false s t other))))
 
   failure

@@ -42,28 +42,28 @@ module _ (limits : List ℕ) (z : Sizes) where
       → Whole limits z (putServer z r s p v)
   server-kept r w s p v h l i =
       let row = w .range .row in
-      record
-      { range =
-          record
-          { row = server-row z r row s p v
-          ; off = ap (λ (m : ℕ). within m (legalDrives z)) (server-off z r row s p v) ∙ w .range .off
-          ; servers =
-              λ t q k m.
+      record {
+        range =
+            record {
+              row = server-row z r row s p v;
+              off = ap (λ (m : ℕ). within m (legalDrives z)) (server-off z r row s p v) ∙ w .range .off;
+              servers =
+                  λ t q k m.
                   by-place s t p q
                   (λ a b.
-                      ap (λ (u : Server). serverFits limits (masksOf z) u)
-                      (ap (λ (x : ℕ). serverOf z (putServer z r s p v) x q) (sym a)
-                      ∙ ap (serverOf z (putServer z r s p v) s) (sym b)
-                      ∙ server-after-server z r row s p v h l)
-                      ∙ says-server limits (masksOf z) v i)
+                  ap (λ (u : Server). serverFits limits (masksOf z) u)
+                  (ap (λ (x : ℕ). serverOf z (putServer z r s p v) x q) (sym a)
+                  ∙ ap (serverOf z (putServer z r s p v) s) (sym b)
+                  ∙ server-after-server z r row s p v h l)
+                  ∙ says-server limits (masksOf z) v i)
                   (λ n.
-                      ap (λ (u : Server). serverFits limits (masksOf z) u) (other-server-after-server z r row s p v t q l m n)
-                      ∙ w .range .servers t q k m)
-          ; nths =
-              λ t j k m.
-                  ap (blockFits limits) (nth-after-server z r row s p v t j l m) ∙ w .range .nths t j k m
-          }
-      ; sizes = server-sizes z r row s p v ∙ w .sizes
+                  ap (λ (u : Server). serverFits limits (masksOf z) u) (other-server-after-server z r row s p v t q l m n)
+                  ∙ w .range .servers t q k m);
+              nths =
+                  λ t j k m.
+                  ap (blockFits limits) (nth-after-server z r row s p v t j l m) ∙ w .range .nths t j k m;
+            };
+        sizes = server-sizes z r row s p v ∙ w .sizes;
       }
 
   pub block-kept
@@ -72,47 +72,47 @@ module _ (limits : List ℕ) (z : Sizes) where
   unfolding blockOf blockAt
   block-kept r w s d p b h l k i =
       let row = w .range .row in
-      record
-      { range =
-          record
-          { row = block-row z r row s d p b
-          ; off = ap (λ (m : ℕ). within m (legalDrives z)) (block-off z r row s d p b) ∙ w .range .off
-          ; servers =
-              λ t q m n.
+      record {
+        range =
+            record {
+              row = block-row z r row s d p b;
+              off = ap (λ (m : ℕ). within m (legalDrives z)) (block-off z r row s d p b) ∙ w .range .off;
+              servers =
+                  λ t q m n.
                   ap (λ (u : Server). serverFits limits (masksOf z) u) (server-after-block z r row s d p b t q n l k)
-                  ∙ w .range .servers t q m n
-          ; nths =
-              λ t j m n.
+                  ∙ w .range .servers t q m n;
+              nths =
+                  λ t j m n.
                   by-place s t (d * z .servers + p) j
                   (λ e f.
-                      ap (blockFits limits)
-                      (ap (λ (x : ℕ). blockIn (putBlock z r s d p b) (nthBlockAt z x j)) (sym e)
-                      ∙ ap (λ (x : ℕ). blockIn (putBlock z r s d p b) (nthBlockAt z s x)) (sym f)
-                      ∙ block-after-block z r row s d p b h l k)
-                      ∙ says-block limits b i)
+                  ap (blockFits limits)
+                  (ap (λ (x : ℕ). blockIn (putBlock z r s d p b) (nthBlockAt z x j)) (sym e)
+                  ∙ ap (λ (x : ℕ). blockIn (putBlock z r s d p b) (nthBlockAt z s x)) (sym f)
+                  ∙ block-after-block z r row s d p b h l k)
+                  ∙ says-block limits b i)
                   (λ e.
-                      ap (blockFits limits) (other-nth-after-block z r row s d p b t j l k n e) ∙ w .range .nths t j m n)
-          }
-      ; sizes = block-sizes z r row s d p b ∙ w .sizes
+                  ap (blockFits limits) (other-nth-after-block z r row s d p b t j l k n e) ∙ w .range .nths t j m n);
+            };
+        sizes = block-sizes z r row s d p b ∙ w .sizes;
       }
 
   pub off-kept : (r : List ℕ) → Whole limits z r → (m : ℕ) → within m (legalDrives z) ≡ true → Whole limits z (set r offAt m)
   off-kept r w m i =
       let row = w .range .row in
-      record
-      { range =
-          record
-          { row = off-row z r row m
-          ; off =
-              ap (λ (x : ℕ). within x (legalDrives z))
-              (getD-set-same r offAt m 0 (let e = row .exact in omega (arith, base-room z (row .fit))))
-              ∙ i
-          ; servers =
-              λ t q h l.
-                  ap (λ (u : Server). serverFits limits (masksOf z) u) (server-after-off z r row m t q) ∙ w .range .servers t q h l
-          ; nths = λ t j h l. ap (blockFits limits) (nth-after-off z r row m t j) ∙ w .range .nths t j h l
-          }
-      ; sizes = off-sizes z r row m ∙ w .sizes
+      record {
+        range =
+            record {
+              row = off-row z r row m;
+              off =
+                  ap (λ (x : ℕ). within x (legalDrives z))
+                  (getD-set-same r offAt m 0 (let e = row .exact in omega (arith, base-room z (row .fit))))
+                  ∙ i;
+              servers =
+                  λ t q h l.
+                  ap (λ (u : Server). serverFits limits (masksOf z) u) (server-after-off z r row m t q) ∙ w .range .servers t q h l;
+              nths = λ t j h l. ap (blockFits limits) (nth-after-off z r row m t j) ∙ w .range .nths t j h l;
+            };
+        sizes = off-sizes z r row m ∙ w .sizes;
       }
 
   pub failure-kept

@@ -6,7 +6,7 @@ use Rattle.room.proofs.opening.open.Reads as reads
 use Rattle.room.proofs.opening.open.Lts as lts
 use Rattle.layout.proofs.room_length.Reads as room-length-reads
 use Rattle.layout.proofs.sizes_fit.Reads as sizes-fit-reads
-use Rattle.room.proofs.opening.clear.Reads as clear-reads
+use Rattle.layout.proofs.clear.Reads as clear-reads
 use native.Mathlib.Omega.{arith}
 use mathlib.Core.Path.{_≡_, _∙_, sym, ap}
 use Prim.Native.Nat.{ℕ}

@@ -1,9 +1,9 @@
--- `room::opening::clear` meets its contract: the cells passed so far are 0.
+-- `layout::clear` meets its contract: the cells passed so far are 0.
 use borrow.Author.Needs.{needs}
-use Rattle.room.proofs.opening.clear.Statement.{statement}
-use Rattle.room.proofs.opening.clear.Tie as tie
-use Rattle.room.proofs.opening.clear.Reads as reads
-use Rattle.room.proofs.opening.clear.Lts as lts
+use Rattle.layout.proofs.clear.Statement.{statement}
+use Rattle.layout.proofs.clear.Tie as tie
+use Rattle.layout.proofs.clear.Reads as reads
+use Rattle.layout.proofs.clear.Lts as lts
 use native.Mathlib.Omega.{arith}
 use Prim.Native.Nat.{ℕ, _+_, _-_, _≤_}
 use mathlib.Core.Path.{_≡_, refl, _∙_, sym, ap}

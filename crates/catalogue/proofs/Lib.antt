@@ -1,0 +1,6 @@
+-- Laws of the catalogue, for the crates above: one command, the fold, the outputs taken, the call's checks, its answers.
+pub mod ApplyLaws
+pub mod FoldLaws
+pub mod OutputLaws
+pub mod CallLaws
+pub mod AnswerLaws

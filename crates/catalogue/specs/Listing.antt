@@ -1,0 +1,19 @@
+-- 01's number and values for each case of a catalogue's answer.
+use Prim.Native.Nat.{ℕ}
+use Rattle.catalogue.specs.declared.Listing.{Listing}
+use Rattle.catalogue.specs.declared.Listing.the-variants.{Counted, Refused}
+
+-- the number of a refusal; 0 where the call is accepted
+abbrev pub refusalOf : Listing → ℕ
+refusalOf (Counted k n) = 0
+refusalOf (Refused n) = n
+
+-- "taken (k)"; a refusal carries only its number
+abbrev pub takenOf : Listing → ℕ
+takenOf (Counted k n) = k
+takenOf (Refused n) = 0
+
+-- "and skipped"
+abbrev pub skippedOf : Listing → ℕ
+skippedOf (Counted k n) = n
+skippedOf (Refused n) = 0

@@ -1,0 +1,101 @@
+-- A whole list of steps from a moment: one path of machine states for each slot, every command offered before it is
+-- output, and at every moment every output equal to the first one of the whole run.
+use Prim.Native.Nat.{ℕ, _<_}
+use mathlib.Core.Path.{_≡_, refl, _∙_, sym, ap, subst}
+use mathlib.Core.Bool.{true}
+use mathlib.Core.List.{List, [], _∷_, List·Memᴰ}
+use Rattle.state.specs.declared.Sizes.{Sizes}
+use Rattle.state.specs.declared.Step.{Step}
+use Rattle.state.specs.Server.{offerOf, outputOf}
+use Rattle.synod.specs.Slot.{Slot, configOf, Ghost, Tried}
+use Rattle.synod.proofs.Agreement.{agree, valid, output-committed}
+use Rattle.layout.specs.Cells.{sizesOf, serverOf}
+use Rattle.range.specs.Range.{inRange}
+use Rattle.range.proofs.Laws.{says-range}
+use Rattle.room.specs.Judge.{limitsOf}
+use Rattle.room.specs.Step.{answered, stepped}
+use Rattle.history.specs.Run.{Event, history, Always, orElse, outputBy, firstOutput, OfferedEarlier}
+use Rattle.history.specs.Machine.{Equal, Follows, ends, goes}
+use Rattle.history.proofs.Firsts.{or-some, or-assoc, firstCommand, first-of}
+use Rattle.history.proofs.SlotMoves.{machineOf}
+use Rattle.history.proofs.Moments.{Moment, Next, next}
+
+module _ (z : Sizes) where
+  equal-at
+      : (cells : List ℕ) (g : ℕ → Ghost) (σ : ℕ → Slot) → Moment (limitsOf cells) z cells g σ → (t : ℕ) → t < z .slots
+      → Equal z t (machineOf (g t) (σ t)) cells
+  equal-at cells g σ now t h =
+      record {
+        offers = λ p l. sym (ap offerOf (now .alike t h p l .own));
+        outputs = λ p l. sym (ap outputOf (now .alike t h p l .own));
+      }
+
+  pub follows
+      : (cells : List ℕ) (g : ℕ → Ghost) (σ : ℕ → Slot) → Moment (limitsOf cells) z cells g σ → (steps : List Step)
+      → (t : ℕ) → t < z .slots → Follows z t (machineOf (g t) (σ t)) cells steps
+  follows cells g σ now [] t h = ends (equal-at cells g σ now t h)
+  follows cells g σ now (st ∷ sts) t h =
+      let n = next z cells g σ now st in
+      goes (equal-at cells g σ now t h) (n .moves t h .makes) (follows (stepped cells st) (n .ghosts) (n .slots) (n .moment) sts t h)
+
+  pub offered-earlier
+      : (cells : List ℕ) (g : ℕ → Ghost) (σ : ℕ → Slot) → Moment (limitsOf cells) z cells g σ → (steps : List Step)
+      → (t : ℕ) → t < z .slots → OfferedEarlier t (g t .offered) (history cells steps)
+  unfolding history OfferedEarlier outputBy
+  offered-earlier cells g σ now [] t h = tt
+  offered-earlier cells g σ now (st ∷ sts) t h =
+      let n = next z cells g σ now st in (
+        n .moves t h .early,
+        subst (λ (l : List ℕ). OfferedEarlier t l (history (stepped cells st) sts)) (n .moves t h .hears)
+            (offered-earlier (stepped cells st) (n .ghosts) (n .slots) (n .moment) sts t h),
+      )
+
+  -- a room of a run, whose outputs are those of the list first
+  pub record Shown (first : ℕ → ℕ) (room : List ℕ) : Type 0 where
+    pub range : inRange (limitsOf room) room ≡ true
+    pub sizes : sizesOf room ≡ z
+    pub outputs
+        : (t p : ℕ) → t < z .slots → p < z .servers → (outputOf (serverOf z room t p) ≡ 0 → ⊥)
+        → outputOf (serverOf z room t p) ≡ first t
+
+  -- an output is the slot's first commit
+  output-first
+      : (cells : List ℕ) (g : ℕ → Ghost) (σ : ℕ → Slot) → Moment (limitsOf cells) z cells g σ → (t p : ℕ) → t < z .slots
+      → p < z .servers → (outputOf (serverOf z cells t p) ≡ 0 → ⊥) → firstCommand (g t .commits) ≡ outputOf (serverOf z cells t p)
+  output-first cells g σ now t p h l n =
+      let same = ap outputOf (now .alike t h p l .own) in
+      let by = output-committed (now .holds t h) p l (λ e. n (sym same ∙ e)) in
+      let this = by .committed in
+      first-of (g t .commits) (outputOf (serverOf z cells t p)) n
+      (λ u m. agree (now .holds t h) m this ∙ same) _ this
+
+  shown-now
+      : (cells : List ℕ) (g : ℕ → Ghost) (σ : ℕ → Slot) → Moment (limitsOf cells) z cells g σ → (first later : ℕ → ℕ)
+      → ((t : ℕ) → t < z .slots → first t ≡ orElse (firstCommand (g t .commits)) (later t)) → Shown first cells
+  shown-now cells g σ now first later e =
+      record {
+        range = says-range (limitsOf cells) z cells (sym (now .whole .sizes)) (now .whole .range);
+        sizes = now .whole .sizes;
+        outputs =
+            λ t p h l n.
+            let f = output-first cells g σ now t p h l n in
+            sym (e t h ∙ ap (λ (x : ℕ). orElse x (later t)) f ∙ or-some (outputOf (serverOf z cells t p)) (later t) n);
+      }
+
+  pub shown
+      : (cells : List ℕ) (g : ℕ → Ghost) (σ : ℕ → Slot) → Moment (limitsOf cells) z cells g σ → (steps : List Step) (first : ℕ → ℕ)
+      → ((t : ℕ) → t < z .slots → first t ≡ orElse (firstCommand (g t .commits)) (firstOutput t (history cells steps)))
+      → Always (Shown first) cells steps
+  unfolding Always history firstOutput outputBy
+  shown cells g σ now [] first e = shown-now cells g σ now first (λ t. 0) e
+  shown cells g σ now (st ∷ sts) first e =
+      let n = next z cells g σ now st in
+      let out : ℕ → ℕ = λ t. outputBy t (record { step = st; answer = answered cells st }) in
+      let rest : ℕ → ℕ = λ t. firstOutput t (history (stepped cells st) sts) in (
+        shown-now cells g σ now first (λ t. orElse (out t) (rest t)) e,
+        shown (stepped cells st) (n .ghosts) (n .slots) (n .moment) sts first
+            (λ t h.
+            e t h
+            ∙ sym (or-assoc (firstCommand (g t .commits)) (out t) (rest t))
+            ∙ ap (λ (x : ℕ). orElse x (rest t)) (sym (n .moves t h .first))),
+      )

@@ -1,0 +1,3 @@
+-- Text as bytes, and the lines that rehearse prints.
+pub mod Text
+pub mod Lines
