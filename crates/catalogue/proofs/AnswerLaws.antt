@@ -5,20 +5,20 @@ use mathlib.Core.Path.{_≡_, refl, _∙_, sym, ap, subst}
 use mathlib.Core.Bool.{true, false, true≢false}
 use mathlib.Core.List.{List}
 use native.Mathlib.Omega.{arith}
-use lib.ListN.{length, getD, take}
+use lib.ListN.{length, getD}
 use lib.Dec.{eqb, ltb}
 use borrow.Author.Tests.{eqb-true, eqb-false, ltb-true, ltb-false}
 use Rattle.lemmas.proofs.Tests.{by-test}
 use Rattle.state.specs.declared.Sizes.{Sizes}
 use Rattle.layout.specs.Cells.{sizesOf}
 use Rattle.range.specs.Range.{inRange}
-use Rattle.catalogue.specs.Fold.{pieces, folded, start}
+use Rattle.catalogue.specs.Fold.{pieces, start}
 use Rattle.catalogue.specs.Outputs.{outputsOf}
 use Rattle.catalogue.specs.Call.{entriesOf, catalogueOf, catalogueCells}
 use Rattle.catalogue.specs.declared.Listing.{Listing}
 use Rattle.catalogue.specs.declared.Listing.the-variants.{Counted, Refused}
 use Rattle.catalogue.proofs.FoldLaws.{fold-length, fold-skips, fold-small, start-small}
-use Rattle.catalogue.proofs.OutputLaws.{outputs-first, Agrees, outputs-prefix}
+use Rattle.catalogue.proofs.OutputLaws.{outputs-first}
 use Rattle.catalogue.proofs.CallLaws.{wrong-length, out-of-range, no-server, accepts}
 
 -- the entries of any server
@@ -35,12 +35,6 @@ module _ (z : Sizes) (room : List ℕ) (p : ℕ) where
   pub entries-skipped : entriesOf z room p .skipped ≤ length (outputsOf z room p)
   unfolding entriesOf
   entries-skipped = omega (arith, fold-skips start (outputsOf z room p))
-
-  -- the entries are those of the first commands of any list that has the outputs at their slots
-  pub entries-prefix
-      : (l : List ℕ) → Agrees z room p l → entriesOf z room p ≡ folded start (take (length (outputsOf z room p)) l)
-  unfolding entriesOf
-  entries-prefix l h = ap (folded start) (outputs-prefix z room p l h)
 
 -- the call as it was made
 module _ (limits room : List ℕ) (server : ℕ) (out : List ℕ) where

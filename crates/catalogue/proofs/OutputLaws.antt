@@ -1,7 +1,7 @@
 -- Laws of the outputs that a catalogue takes: they are the first slots' outputs, up to the first slot without one, and
 -- in a room in range each is a command.
 use Prim.Native.Nat.{ℕ, zero, suc, _+_, _-_, _≤_, _<_}
-use mathlib.Core.Path.{_≡_, refl, _∙_, sym, ap, subst}
+use mathlib.Core.Path.{_≡_, refl, _∙_, sym, ap, ap₂, subst}
 use mathlib.Core.Bool.{Bool, true, false, _&&_}
 use mathlib.Core.List.{List, [], _∷_}
 use native.Mathlib.Omega.{arith}
@@ -108,26 +108,21 @@ outputs-first z cells p =
       stop = λ h. sym (ap f (zero-add (length (leading f 0 (z .slots))))) ∙ l .stop h;
     }
 
--- a list that has the outputs taken at their slots begins with them
-module _ (z : Sizes) (cells : List ℕ) (p : ℕ) (l : List ℕ) where
-  abbrev pub Agrees : Type 0
-  Agrees = (s : ℕ) → s < length (outputsOf z cells p) → getD l s 0 ≡ outputAt z cells p s
-
-  -- past the end of l stands 0, which is no output
-  has-all : Agrees → length (outputsOf z cells p) ≤ length l
-  has-all h =
-      by-test (leb (length (outputsOf z cells p)) (length l))
-      (leb-true (length (outputsOf z cells p)) (length l))
-      (λ e.
-      let n = leb-false (length (outputsOf z cells p)) (length l) e in
-      absurd
-      (outputs-first z cells p .some (length l) n (sym (h (length l) n) ∙ List·getD-eq-default l 0 (le-refl (length l)))))
-
-  pub outputs-prefix : Agrees → outputsOf z cells p ≡ take (length (outputsOf z cells p)) l
-  outputs-prefix h =
-      let vs = outputsOf z cells p in
-      ext-getD 0 vs (take (length vs) l) (sym (length-take-le (length vs) l (has-all h)))
-      (λ i k. outputs-first z cells p .at i k ∙ sym (getD-take (length vs) l i 0 k ∙ h i k))
+-- where each value of f that is not 0 is that of g, what f leads with is a beginning of what g leads with
+pub leading-prefix
+    : (f g : ℕ → ℕ) (s n : ℕ) → ((i : ℕ) → s ≤ i → i < s + n → (f i ≡ 0 → ⊥) → f i ≡ g i)
+    → leading f s n ≡ take (length (leading f s n)) (leading g s n)
+unfolding leading
+leading-prefix f g s zero h = refl
+leading-prefix f g s (suc n) h =
+    by-test (eqb (f s) 0)
+    (λ e. simp e)
+    (λ e.
+    let some = eqb-false (f s) 0 e in
+    let same = h s (omega arith) (omega arith) some in
+    let there = ne-eqb (g s) 0 (λ z. some (same ∙ z)) in
+    simp (e, there)
+    (ap₂ _∷_ same (leading-prefix f g (suc s) n (λ i a b. h i (omega arith) (omega arith)))))
 
 value-command : (limits : List ℕ) (v : ℕ) → valueFits limits v ≡ true → (v ≡ 0 → ⊥) → isCommand limits v ≡ true
 unfolding valueFits

@@ -1,0 +1,2 @@
+-- Demand 3, proved.
+pub mod Theorem

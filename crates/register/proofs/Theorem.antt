@@ -1,0 +1,100 @@
+-- Demand 3: from a room just opened, for all sizes that fit, every old content of the row and every list of steps.
+use Prim.Native.Nat.{ℕ, _+_, _<_, _≤_, min}
+use mathlib.Core.Path.{_≡_, refl, _∙_, sym, ap, subst}
+use mathlib.Core.Bool.{true, false}
+use mathlib.Core.List.{List, [], _∷_}
+use native.Mathlib.Omega.{arith}
+use lib.ListN.{length, take, length-take}
+use lib.Dec.{eqb}
+use Rattle.lemmas.proofs.Tests.{by-test}
+use Rattle.command.specs.Command.{cabinetLimits}
+use Rattle.state.specs.declared.Sizes.{Sizes}
+use Rattle.state.specs.declared.Step.{Step}
+use Rattle.state.specs.Server.{outputOf}
+use Rattle.synod.specs.Slot.{noGhost, blankSlot}
+use Rattle.layout.specs.Places.{sizesFit, Fit}
+use Rattle.layout.specs.Cells.{sizesOf, serverOf}
+use Rattle.layout.proofs.PlaceLaws.{fit-of}
+use Rattle.room.specs.declared.opening.Opening.{Opening}
+use Rattle.room.specs.declared.opening.Opening.the-variants.{Opened, Refused}
+use Rattle.room.specs.Open.{opening, openedBy, opened, openedCells}
+use Rattle.room.specs.Step.{stepped}
+use Rattle.room.proofs.OpenLaws.{opens-1}
+use Rattle.history.specs.Run.{history, Always, orElse, firstOutput}
+use Rattle.history.proofs.Opened.{opens}
+use Rattle.history.proofs.Runs.{follows, offered-earlier, Shown, shown}
+use Rattle.catalogue.specs.Fold.{pieces, folded, start}
+use Rattle.catalogue.specs.Outputs.{outputAt, leading, outputsOf}
+use Rattle.catalogue.specs.Call.{entriesOf, counted, catalogueOf, catalogueCells}
+use Rattle.catalogue.specs.declared.Listing.the-variants.{Counted}
+use Rattle.catalogue.proofs.OutputLaws.{leading-prefix}
+use Rattle.catalogue.proofs.CallLaws.{accepts}
+use Rattle.register.specs.OneHistory.{commandsOf, Shows, AllShow, OneHistory}
+
+-- what an accepted open says
+opened-fit : (z : Sizes) (row : List ℕ) → opening z row ≡ Opened → Fit z
+opened-fit z row e =
+    by-test (sizesFit z)
+    (λ a. fit-of z a)
+    (λ a.
+    let b = opens-1 z row a .answers in
+    let c : _≡_ {A = ℕ} 0 1 = cc in
+    absurd (omega arith))
+
+opened-is : (z : Sizes) (row : List ℕ) → opening z row ≡ Opened → opened z row ≡ openedCells z
+unfolding opened
+opened-is z row e = ap (openedBy z row) e
+
+-- a room whose outputs are those of the run shows the run's first commands
+module _ (z : Sizes) (first : ℕ → ℕ) (room : List ℕ) (s : Shown z first room) where
+  taken-prefix : (p : ℕ) → p < z .servers → outputsOf z room p ≡ take (length (outputsOf z room p)) (leading first 0 (z .slots))
+  unfolding outputsOf outputAt
+  taken-prefix p l =
+      leading-prefix (outputAt z room p) first 0 (z .slots)
+      (λ t a b n. s .outputs t p (omega arith) l n)
+
+  pub shows : AllShow z (leading first 0 (z .slots)) room
+  unfolding entriesOf
+  shows p l out exact =
+      let list = leading first 0 (z .slots) in
+      let same = s .sizes in
+      let call = accepts cabinetLimits room p out exact (s .range) (subst (λ (y : Sizes). p < y .servers) (sym same) l) in
+      let prefix = taken-prefix p l in
+      let k = length (outputsOf z room p) in
+      record {
+        k = k;
+        some = let n = ap length prefix ∙ length-take k list in omega arith;
+        answer =
+            sym (call .0)
+            ∙ ap (λ (y : Sizes). counted y room p) same
+            ∙ ap (λ (l : List ℕ). Counted k (folded start l .skipped)) prefix;
+        cells =
+            sym (call .1)
+            ∙ ap (λ (y : Sizes). entriesOf y room p .cells) same
+            ∙ ap (λ (l : List ℕ). folded start l .cells) prefix;
+      }
+
+-- what holds at every moment may be weakened at every moment
+always-map : (P Q : List ℕ → Type 0) → ((room : List ℕ) → P room → Q room) → (cells : List ℕ) (steps : List Step) → Always P cells steps → Always Q cells steps
+unfolding Always
+always-map P Q f cells [] a = f cells a
+always-map P Q f cells (st ∷ sts) a = (f cells (a .0), always-map P Q f (stepped cells st) sts (a .1))
+
+from-opened : (z : Sizes) → Fit z → (steps : List Step) → OneHistory z (openedCells z) steps
+unfolding commandsOf
+from-opened z fit steps =
+    let cells = openedCells z in
+    let now = opens cabinetLimits z fit in
+    let first : ℕ → ℕ = λ t. firstOutput t (history cells steps) in
+    record {
+      machines = follows z cells (λ t. noGhost) (λ t. blankSlot) now steps;
+      catalogues =
+          always-map (Shown z first) (AllShow z (leading first 0 (z .slots))) (shows z first) cells steps
+          (shown z cells (λ t. noGhost) (λ t. blankSlot) now steps first (λ t h. refl));
+      offered = offered-earlier z cells (λ t. noGhost) (λ t. blankSlot) now steps;
+    }
+
+-- DEMAND 3
+pub one-history : (z : Sizes) (row : List ℕ) → opening z row ≡ Opened → (steps : List Step) → OneHistory z (opened z row) steps
+one-history z row e steps =
+    subst (λ (cells : List ℕ). OneHistory z cells steps) (sym (opened-is z row e)) (from-opened z (opened-fit z row e) steps)

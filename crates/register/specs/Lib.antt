@@ -1,0 +1,2 @@
+-- What is promised of whole runs.
+pub mod OneHistory

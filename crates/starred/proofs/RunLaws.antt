@@ -1,0 +1,72 @@
+-- A run that passes its test is as it says.
+use Prim.Native.Nat.{ℕ, zero, suc}
+use mathlib.Core.Path.{_≡_, refl, _∙_, sym, ap, ap₂}
+use mathlib.Core.Bool.{Bool, true, _&&_}
+use mathlib.Core.List.{List, [], _∷_, _++_}
+use lib.Dec.{eqb}
+use borrow.Author.Tests.{eqb-true}
+use Rattle.lemmas.proofs.Tests.{and-left, and-right}
+use Rattle.state.specs.declared.Answer.{Answer}
+use Rattle.state.specs.declared.Answer.the-variants.{Done, Outbid, Chosen, Committed, Refused}
+use Rattle.state.specs.declared.Block.{Block}
+use Rattle.state.specs.Answers.{codeOf, numberOf}
+use Rattle.room.specs.Step.{answered, stepped}
+use Rattle.starred.specs.Runs.{block, Line, _↝_, Own, OnDrive, own, onDrive, Follows, after, sameAnswer, sameBlock, follows}
+
+-- the answer with this word and this number
+abbrev fromCode : ℕ → ℕ → Answer
+fromCode zero n = Done
+fromCode (suc zero) n = Outbid n
+fromCode (suc (suc zero)) n = Chosen n
+fromCode (suc (suc (suc zero))) n = Committed n
+fromCode (suc (suc (suc (suc k)))) n = Refused n
+
+from-own-code : (a : Answer) → fromCode (codeOf a) (numberOf a) ≡ a
+from-own-code Done = refl
+from-own-code (Outbid b) = refl
+from-own-code (Chosen c) = refl
+from-own-code (Committed c) = refl
+from-own-code (Refused n) = refl
+
+-- both parts of a test
+pub both : (a b : Bool) → (a && b) ≡ true → (a ≡ true) × (b ≡ true)
+both a b e = (and-left a b e, and-right a b e)
+
+pub same-answer : (a b : Answer) → sameAnswer a b ≡ true → a ≡ b
+unfolding sameAnswer
+same-answer a b e =
+    let t = both (eqb (codeOf a) (codeOf b)) (eqb (numberOf a) (numberOf b)) e in
+    let word : codeOf a ≡ codeOf b = eqb-true (codeOf a) (codeOf b) (t .0) in
+    let number : numberOf a ≡ numberOf b = eqb-true (numberOf a) (numberOf b) (t .1) in
+    sym (from-own-code a) ∙ ap₂ fromCode word number ∙ from-own-code b
+
+pub same-block : (a b : Block) → sameBlock a b ≡ true → a ≡ b
+unfolding sameBlock
+same-block a b e =
+    let t = both (eqb (a .mbal) (b .mbal) && eqb (a .bal) (b .bal)) (eqb (a .inp) (b .inp)) e in
+    let u = both (eqb (a .mbal) (b .mbal)) (eqb (a .bal) (b .bal)) (t .0) in
+    let mbal : a .mbal ≡ b .mbal = eqb-true (a .mbal) (b .mbal) (u .0) in
+    let bal : a .bal ≡ b .bal = eqb-true (a .bal) (b .bal) (u .1) in
+    let inp : a .inp ≡ b .inp = eqb-true (a .inp) (b .inp) (t .1) in
+    ap₂ (λ (m n : ℕ). block m n (a .inp)) mbal bal ∙ ap (block (b .mbal) (b .bal)) inp
+
+pub run-says : (cells : List ℕ) (run : List Line) → follows cells run ≡ true → Follows cells run
+unfolding follows Follows
+run-says cells [] e = tt
+run-says cells (step ↝ answer ∷ run) e =
+    let t = both (sameAnswer (answered cells step) answer) (follows (stepped cells step) run) e in
+    (same-answer (answered cells step) answer (t .0), run-says (stepped cells step) run (t .1))
+run-says cells (Own p b ∷ run) e =
+    let t = both (sameBlock (own cells p) b) (follows cells run) e in
+    (same-block (own cells p) b (t .0), run-says cells run (t .1))
+run-says cells (OnDrive d p b ∷ run) e =
+    let t = both (sameBlock (onDrive cells d p) b) (follows cells run) e in
+    (same-block (onDrive cells d p) b (t .0), run-says cells run (t .1))
+
+-- what a run says from one of its places on
+pub later : (cells : List ℕ) (first rest : List Line) → Follows cells (first ++ rest) → Follows (after cells first) rest
+unfolding Follows after
+later cells [] rest h = h
+later cells (step ↝ answer ∷ first) rest h = later (stepped cells step) first rest (h .1)
+later cells (Own p b ∷ first) rest h = later cells first rest (h .1)
+later cells (OnDrive d p b ∷ first) rest h = later cells first rest (h .1)

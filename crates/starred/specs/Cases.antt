@@ -1,0 +1,95 @@
+-- The kinds of starred values: what a case of each kind says, and the test that it passes.
+use Prim.Native.Nat.{ℕ, _^_, _<_, _≤_}
+use mathlib.Core.Bool.{Bool, true, false, not, _&&_, _||_, Bool·beq}
+use mathlib.Core.List.{List, [], _∷_}
+use mathlib.Core.Path.{_≡_}
+use lib.Count.{ones}
+use lib.Dec.{eqb, leb}
+use lib.ListN.{getD}
+use Rattle.command.specs.Command.{kindOf, pieceOf, hoardOf, cabinetLimits, isCommand}
+use Rattle.ballot.specs.Ballot.{owned}
+use Rattle.quorum.specs.Marks.{stands}
+use Rattle.quorum.specs.Sets.{allBelow, majority}
+use Rattle.state.specs.declared.Answer.{Answer}
+use Rattle.state.specs.declared.Answer.the-variants.{Done, Refused}
+use Rattle.state.specs.declared.Sizes.{Sizes}
+use Rattle.state.specs.declared.Step.the-variants.{Offer}
+use Rattle.layout.specs.Places.{sizesFit, roomLength}
+use Rattle.room.specs.declared.opening.Opening.{Opening}
+use Rattle.room.specs.declared.opening.Opening.the-variants as opening-answer
+use Rattle.room.specs.Open.{opening, opened}
+use Rattle.room.specs.Step.{answered}
+use Rattle.starred.specs.Runs.{sizes, newRoom, Line, Follows, sameAnswer, follows}
+
+-- a case by its kind, with its numbers
+pub data Case : Type 0 where
+  -- a room of these sizes has so many cells
+  Length : (servers drives slots cells : ℕ) → Case
+  -- with so many servers, open is refused with the number
+  Unopened : (servers number : ℕ) → Case
+  -- a command, with its parts
+  Command : (v kind piece hoard : ℕ) → Case
+  -- no command: its Offer is refused with the number
+  NoCommand : (v number : ℕ) → Case
+  -- among so many servers the ballot is this server's
+  Owned : (servers ballot server : ℕ) → Case
+  -- of so many drives, the least number that is a majority
+  Majority : (drives least : ℕ) → Case
+  -- a run in a room of so many servers and drives
+  Run : (servers drives : ℕ) → List Line → Case
+
+-- what the smallest room, just opened, answers to an Offer of v
+abbrev pub offered : ℕ → Answer
+offered v = answered (newRoom (sizes 1 1 1)) (Offer 0 0 v)
+
+-- v is a command of kind k, piece p and hoard h
+pub record IsCommand (v k p h : ℕ) : Type 0 where
+  pub command : isCommand cabinetLimits v ≡ true
+  pub kind : kindOf v ≡ k
+  pub piece : pieceOf v ≡ p
+  pub hoard : hoardOf v ≡ h
+  pub accepted : offered v ≡ Done
+
+-- open refuses these sizes with the number and leaves the row as it was
+pub record IsUnopened (z : Sizes) (number : ℕ) (row : List ℕ) : Type 0 where
+  pub refused : opening z row ≡ opening-answer.Refused number
+  pub kept : opened z row ≡ row
+
+-- what a case says
+abbrev pub Says : Case → Type 0
+Says (Length n d s cells) = (sizesFit (sizes n d s) ≡ true) × (roomLength (sizes n d s) ≡ cells)
+Says (Unopened n number) = (d s : ℕ) → d ≤ 7 → s ≤ 16 → (row : List ℕ) → IsUnopened (sizes n d s) number row
+Says (Command v k p h) = IsCommand v k p h
+Says (NoCommand v number) = (isCommand cabinetLimits v ≡ false) × (offered v ≡ Refused number)
+Says (Owned n b p) = (owned n p b ≡ true) × ((q : ℕ) → q < n → owned n q b ≡ true → q ≡ p)
+Says (Majority d least) = (m : ℕ) → m < 2 ^ d → majority d (stands m) ≡ leb least (ones m)
+Says (Run n d run) = Follows (newRoom (sizes n d 1)) run
+
+abbrev pub refusedWith : ℕ → Opening → Bool
+refusedWith number opening-answer.Opened = false
+refusedWith number (opening-answer.Refused n) = eqb n number
+
+-- sizes that do not fit are refused before the row is looked at, so that the empty row shows the number for all
+abbrev pub isUnopened : ℕ → ℕ → ℕ → ℕ → Bool
+isUnopened number n d s = not (sizesFit (sizes n d s)) && refusedWith number (opening (sizes n d s) [])
+
+-- the test of a case
+unfoldable pub holds : Case → Bool
+holds (Length n d s cells) = sizesFit (sizes n d s) && eqb (roomLength (sizes n d s)) cells
+holds (Unopened n number) = allBelow 8 (λ d. allBelow 17 (isUnopened number n d))
+holds (Command v k p h) =
+    isCommand cabinetLimits v
+    && (eqb (kindOf v) k && (eqb (pieceOf v) p && (eqb (hoardOf v) h && sameAnswer (offered v) Done)))
+holds (NoCommand v number) = not (isCommand cabinetLimits v) && sameAnswer (offered v) (Refused number)
+holds (Owned n b p) = owned n p b && allBelow n (λ q. not (owned n q b) || eqb q p)
+holds (Majority d least) = allBelow (2 ^ d) (λ m. Bool·beq (majority d (stands m)) (leb least (ones m)))
+holds (Run n d run) = follows (newRoom (sizes n d 1)) run
+
+-- every case of a list passes its test
+unfoldable pub allHold : List Case → Bool
+allHold [] = true
+allHold (c ∷ cases) = holds c && allHold cases
+
+-- the i-th case; beyond the table, a run of no steps, which says nothing
+abbrev pub caseAt : List Case → ℕ → Case
+caseAt cases i = getD cases i (Run 1 1 [])

@@ -1,0 +1,92 @@
+-- The starred values (01, "Edge values (* to be proved)") as one table.
+use Prim.Native.Nat.{ℕ}
+use mathlib.Core.List.{List, [], _∷_, _++_}
+use Rattle.command.specs.Command.{enter, strike}
+use Rattle.state.specs.declared.Answer.the-variants.{Done, Outbid, Chosen, Refused}
+use Rattle.state.specs.declared.Step.the-variants.{Offer, Recall, Rejoin, Bid, Write, Read, Finish, Fail}
+use Rattle.starred.specs.Runs.{block, Line, _↝_, Own, OnDrive}
+use Rattle.starred.specs.Cases.{Case, Length, Unopened, Command, NoCommand, Owned, Majority, Run}
+
+-- "N = 2: .. 1,000,001: 6": in a run where every other check passes. By its remainder it would be server 0's.
+abbrev pub pastTheLimit : List Line
+pastTheLimit =
+    Recall 0 0 0 ↝ Done
+    ∷ Rejoin 0 0 1000001 ↝ Refused 6
+    ∷ Rejoin 0 0 1000000 ↝ Refused 6
+    ∷ Rejoin 0 0 1 ↝ Done
+    ∷ Bid 0 0 1000001 ↝ Refused 6
+    ∷ Own 0 (block 1 0 0)
+    ∷ Recall 1 0 0 ↝ Done
+    ∷ Rejoin 1 0 1000001 ↝ Refused 6
+    ∷ Rejoin 1 0 1000000 ↝ Done
+    ∷ Bid 1 0 1000001 ↝ Refused 6
+    ∷ Own 1 (block 1000000 0 0)
+    ∷ []
+
+-- server 2 at 7 and server 1 at 2, both written on drive 0
+abbrev pub met : List Line
+met =
+    Recall 2 0 0 ↝ Done
+    ∷ Rejoin 2 0 7 ↝ Done
+    ∷ Write 2 0 0 ↝ Done
+    ∷ Recall 1 0 0 ↝ Done
+    ∷ Rejoin 1 0 2 ↝ Done
+    ∷ Write 1 0 0 ↝ Done
+    ∷ OnDrive 0 2 (block 7 0 0)
+    ∷ Own 1 (block 2 0 0)
+    ∷ []
+
+-- "N = 4, server 1 at 2 finds 7: outbid, now 10"
+abbrev pub outbid : List Line
+outbid = met ++ (Read 1 0 0 2 ↝ Outbid 7 ∷ Own 1 (block 10 0 0) ∷ [])
+
+-- server 0 proposes 66,825 with ballot 1, writes it on drive 0 alone, and fails
+abbrev pub proposed : List Line
+proposed =
+    Offer 0 0 66825 ↝ Done
+    ∷ Recall 0 0 0 ↝ Done
+    ∷ Recall 0 0 1 ↝ Done
+    ∷ Rejoin 0 0 1 ↝ Done
+    ∷ Write 0 0 0 ↝ Done
+    ∷ Write 0 0 1 ↝ Done
+    ∷ Read 0 0 0 1 ↝ Done
+    ∷ Read 0 0 1 1 ↝ Done
+    ∷ Finish 0 0 ↝ Chosen 66825
+    ∷ Write 0 0 0 ↝ Done
+    ∷ Fail 0 ↝ Done
+    ∷ OnDrive 0 0 (block 1 1 66825)
+    ∷ OnDrive 1 0 (block 1 0 0)
+    ∷ []
+
+-- it recalls its blocks on the two drives in this order, and rejoins
+abbrev pub recalled : ℕ → ℕ → List Line
+recalled first second = Recall 0 0 first ↝ Done ∷ Recall 0 0 second ↝ Done ∷ Rejoin 0 0 3 ↝ Done ∷ []
+
+-- "N = 2, server 0 recalls (1, 1, 66,825) and (1, 0, 0), Rejoin 3: (3, 1, 66,825)"
+abbrev pub rejoined : ℕ → ℕ → List Line
+rejoined first second = proposed ++ recalled first second ++ (Own 0 (block 3 1 66825) ∷ [])
+
+-- 01's list, in its order
+unfoldable pub starred : List Case
+starred =
+    -- "1, 1, 1: 17 cells; 4, 7, 16: 1,988; N = 0: 1"
+    Length 1 1 1 17
+    ∷ Length 4 7 16 1988
+    ∷ Unopened 0 1
+    -- "81,724 (enter 63, hoard 60) a command; 81,725: 5; 196,608 a command; 196,609: 5"
+    ∷ Command 81724 enter 63 60
+    ∷ NoCommand 81725 5
+    ∷ Command 196608 strike 0 0
+    ∷ NoCommand 196609 5
+    -- "N = 2: ballot 1,000,000 is server 1's; 1,000,001: 6"
+    ∷ Owned 2 1000000 1
+    ∷ Run 2 1 pastTheLimit
+    -- "Majority of 2 drives: 2; of 7: 4"
+    ∷ Majority 2 2
+    ∷ Majority 7 4
+    -- "N = 4, server 1 at 2 finds 7: outbid, now 10"
+    ∷ Run 4 1 outbid
+    -- "N = 2, server 0 recalls .., whichever came first"
+    ∷ Run 2 2 (rejoined 0 1)
+    ∷ Run 2 2 (rejoined 1 0)
+    ∷ []
