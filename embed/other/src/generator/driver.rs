@@ -1,0 +1,242 @@
+//! Steps of servers that follow the protocol. One server acts for a while in
+//! one slot, then another; failures, switched drives and noise come between.
+
+use super::chance::Chance;
+use super::noise::{any_step, good_command};
+use crate::refusal;
+use crate::room::{Sizes, OFF};
+use crate::server::{is_majority, Server};
+use crate::steps::{Answer, Step};
+use crate::{least_own_above, BALLOT_LIMIT};
+
+/// How a run goes. The rates are of a thousand steps.
+#[derive(Clone, Copy, Debug)]
+pub struct Habits {
+    /// Steps of any kind.
+    pub noise: u32,
+    /// Failures of a server.
+    pub failures: u32,
+    /// Switches of a drive.
+    pub switches: u32,
+    /// Bids without need.
+    pub bids: u32,
+    /// About how many steps a server takes before another does.
+    pub turn: u32,
+    /// The slots where ballots are near the limit, as marks.
+    pub high: u32,
+}
+
+impl Habits {
+    /// Habits of every sort.
+    pub fn any(chance: &mut Chance) -> Habits {
+        let high = if chance.one_in(4) { chance.draw() as u32 & chance.draw() as u32 } else { 0 };
+        Habits {
+            noise: chance.one_of(&[10, 40, 100, 250]),
+            failures: chance.one_of(&[0, 2, 8, 20]),
+            switches: chance.one_of(&[0, 5, 30]),
+            bids: chance.one_of(&[0, 2, 10]),
+            turn: chance.one_of(&[3, 8, 20, 40, 80]),
+            high,
+        }
+    }
+}
+
+/// The servers of one run.
+#[derive(Clone, Debug)]
+pub struct Driver {
+    sizes: Sizes,
+    habits: Habits,
+    pieces: Vec<u32>,
+    /// The slots, as marks, that each server has given up.
+    given_up: [u32; 4],
+    /// The turn: the server that acts, its slot, the drive it begins with,
+    /// whether it offers nothing, and how many steps are left.
+    server: usize,
+    slot: usize,
+    first: usize,
+    silent: bool,
+    left: u32,
+    /// Whether the last step was one of the turn.
+    acted: bool,
+}
+
+impl Driver {
+    /// The servers of a new run.
+    pub fn new(chance: &mut Chance, sizes: Sizes, habits: Habits) -> Driver {
+        // Few pieces, so that enter, move and strike meet one another.
+        let count = chance.from_to(1, 4);
+        let pieces = (0..count).map(|_| chance.below(64)).collect();
+        Driver {
+            sizes,
+            habits,
+            pieces,
+            given_up: [0; 4],
+            server: 0,
+            slot: 0,
+            first: 0,
+            silent: false,
+            left: 0,
+            acted: false,
+        }
+    }
+
+    /// The next step of the run, in the room as it stands.
+    pub fn next_step(&mut self, chance: &mut Chance, room: &[u32]) -> Step {
+        self.acted = false;
+        if chance.per_mille(self.habits.noise) {
+            return any_step(chance, room, self.sizes, self.slot, &self.pieces);
+        }
+        if chance.per_mille(self.habits.failures) {
+            return Step::Fail { server: chance.place(self.sizes.servers) as u8 };
+        }
+        if chance.per_mille(self.habits.switches) {
+            return self.switch(chance, room);
+        }
+        if self.left == 0 || self.own(room).output().is_some() {
+            if let Some(step) = self.new_turn(chance, room) {
+                return step;
+            }
+        }
+        self.acted = true;
+        self.left -= 1;
+        self.act(chance, room)
+    }
+
+    /// Ends the turn where its step was refused. Where the server has no
+    /// ballot left it gives the slot up.
+    pub fn hear(&mut self, answer: Answer) {
+        if let (true, Answer::Refused(number)) = (self.acted, answer) {
+            self.left = 0;
+            if number == refusal::NOT_ABOVE || number == refusal::NO_BALLOT_LEFT {
+                self.given_up[self.server] |= 1 << self.slot;
+            }
+        }
+    }
+
+    /// Chooses the server and the slot of the next turn. Where every server
+    /// has put out or given up every slot, the step is the failure of one.
+    fn new_turn(&mut self, chance: &mut Chance, room: &[u32]) -> Option<Step> {
+        let offset = chance.place(self.sizes.servers);
+        for next in 0..self.sizes.servers {
+            let server = (offset + next) % self.sizes.servers;
+            let open: Vec<usize> = (0..self.sizes.slots)
+                .filter(|&slot| self.given_up[server] >> slot & 1 == 0)
+                .filter(|&slot| self.server(room, slot, server).output().is_none())
+                .collect();
+            if let Some(&lowest) = open.first() {
+                self.server = server;
+                self.slot = if chance.one_in(4) { chance.one_of(&open) } else { lowest };
+                self.first = chance.place(self.sizes.drives);
+                self.silent = chance.one_in(16);
+                self.left = chance.from_to(1, 2 * self.habits.turn);
+                return None;
+            }
+        }
+        self.given_up = [0; 4];
+        Some(Step::Fail { server: offset as u8 })
+    }
+
+    /// The step that helps the acting server in its slot.
+    fn act(&self, chance: &mut Chance, room: &[u32]) -> Step {
+        let own = self.own(room);
+        let Sizes { servers, drives, .. } = self.sizes;
+        let (server, slot) = (self.server as u8, self.slot as u8);
+        if own.phase == 0 {
+            if is_majority(own.recalled(self.server, drives), drives) && !chance.one_in(16) {
+                return Step::Rejoin { server, slot, number: self.ballot(chance, own.top) };
+            }
+            return self.recall(room, &own);
+        }
+        if own.phase == 1 && own.seeninp == 0 && own.offer == 0 && !self.silent {
+            return Step::Offer { server, slot, number: good_command(chance, &self.pieces) };
+        }
+        if chance.per_mille(self.habits.bids) {
+            return Step::Bid { server, slot, number: self.ballot(chance, own.own.mbal) };
+        }
+        let completed = own.completed(self.server, servers, drives);
+        if is_majority(completed, drives) {
+            return Step::Finish { server, slot };
+        }
+        self.write_or_read(room, &own, completed)
+    }
+
+    /// The recall of a drive that was not recalled yet.
+    fn recall(&self, room: &[u32], own: &Server) -> Step {
+        match self.usable(room, own.recalled(self.server, self.sizes.drives)) {
+            Some(drive) => {
+                let (server, slot) = (self.server as u8, self.slot as u8);
+                Step::Recall { server, slot, drive: drive as u8 }
+            }
+            None => self.switch_on(room),
+        }
+    }
+
+    /// Writes the next drive, or reads the next block on one that is written.
+    fn write_or_read(&self, room: &[u32], own: &Server, completed: u32) -> Step {
+        let (server, slot) = (self.server as u8, self.slot as u8);
+        let Some(drive) = self.usable(room, completed) else {
+            return self.switch_on(room);
+        };
+        let unread = (0..self.sizes.servers)
+            .find(|&other| other != self.server && own.read >> (4 * drive + other) & 1 == 0);
+        match unread {
+            Some(other) if own.written >> drive & 1 == 1 => {
+                Step::Read { server, slot, drive: drive as u8, other: other as u8 }
+            }
+            _ => Step::Write { server, slot, drive: drive as u8 },
+        }
+    }
+
+    /// The next drive that is on and not among `marks`.
+    fn usable(&self, room: &[u32], marks: u32) -> Option<usize> {
+        let passed = room[OFF] | marks;
+        (0..self.sizes.drives)
+            .map(|next| (self.first + next) % self.sizes.drives)
+            .find(|drive| passed >> drive & 1 == 0)
+    }
+
+    /// Switches on the lowest drive that is off, drive 0 where none is.
+    fn switch_on(&self, room: &[u32]) -> Step {
+        let lowest = room[OFF].trailing_zeros() % 32;
+        Step::DriveOn { drive: lowest as u8 }
+    }
+
+    /// Switches a drive. A drive that is off goes on three times in four.
+    fn switch(&self, chance: &mut Chance, room: &[u32]) -> Step {
+        if room[OFF] != 0 && !chance.one_in(4) {
+            return self.switch_on(room);
+        }
+        Step::DriveOff { drive: chance.place(self.sizes.drives) as u8 }
+    }
+
+    /// An own ballot above `below`, in a high slot one near the limit.
+    fn ballot(&self, chance: &mut Chance, below: u32) -> u32 {
+        let servers = self.sizes.servers as u32;
+        let high = self.habits.high >> self.slot & 1 == 1;
+        let start = if high { below.max(BALLOT_LIMIT - chance.from_to(1, 12)) } else { below };
+        let least = least_own_above(start, self.server as u32, servers)
+            .or_else(|| least_own_above(below, self.server as u32, servers));
+        let least = least.unwrap_or_else(|| self.last_ballot());
+        let later = least + servers * chance.one_of(&[0, 0, 0, 0, 1, 1, 2, 5]);
+        if later <= BALLOT_LIMIT {
+            later
+        } else {
+            least
+        }
+    }
+
+    /// The largest ballot of the acting server.
+    fn last_ballot(&self) -> u32 {
+        let servers = self.sizes.servers as u32;
+        let above = BALLOT_LIMIT - servers;
+        least_own_above(above, self.server as u32, servers).unwrap_or(BALLOT_LIMIT)
+    }
+
+    fn own(&self, room: &[u32]) -> Server {
+        self.server(room, self.slot, self.server)
+    }
+
+    fn server(&self, room: &[u32], slot: usize, server: usize) -> Server {
+        Server::load(room, self.sizes.server_at(slot, server))
+    }
+}

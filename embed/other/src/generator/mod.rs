@@ -1,0 +1,19 @@
+//! Inputs for rehearse, made from a seed alone.
+//!
+//! - `chance`: the numbers drawn from a seed.
+//! - `driver`: steps of servers that follow the protocol.
+//! - `noise`: steps of any kind, many of which are refused.
+//! - `inputs`: whole inputs, damaged ones among them.
+//! - `tally`: how often each answer occurs in what rehearse prints.
+
+mod chance;
+mod driver;
+mod inputs;
+mod noise;
+mod tally;
+
+pub use chance::Chance;
+pub use driver::{Driver, Habits};
+pub use inputs::{make_input, SIZES};
+pub use noise::any_step;
+pub use tally::Tally;

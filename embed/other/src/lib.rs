@@ -1,0 +1,29 @@
+//! This is a second implementation of 01, written from 01 and not from the
+//! Rattle code, used to check and to time the register.
+//!
+//! The calls are [`open`], [`step`], [`catalogue`], [`read_record`] and
+//! [`write_record`]. [`rehearse`] gives the bytes that the program rehearse
+//! prints. Every refusal is a number of [`refusal`], and a refused call leaves
+//! every lent cell and byte as it was.
+//!
+//! [`generator`] makes inputs for rehearse from a seed. It is no part of 01.
+
+mod ballots;
+mod catalogue;
+mod commands;
+pub mod generator;
+mod records;
+pub mod refusal;
+mod rehearse;
+mod room;
+mod server;
+mod steps;
+
+pub use ballots::{least_own_above, owner, BALLOT_LIMIT};
+pub use catalogue::{catalogue, PIECES};
+pub use commands::{is_command, Kind};
+pub use records::{read_record, write_record, LONGEST_RECORD};
+pub use rehearse::{rehearse, INPUT_LIMIT};
+pub use room::{judge, open, room_length, Sizes, MOST_CELLS};
+pub use server::{is_majority, Block, Server};
+pub use steps::{step, Answer, Step};
