@@ -4,3 +4,5 @@ pub mod StoresKeep
 pub mod StepKeeps
 pub mod Seen
 pub mod SlotTie
+pub mod Lowest
+pub mod Frame
