@@ -13,7 +13,7 @@ use Rattle.synod.specs.declared.Ruling.{Ruling}
 use Rattle.synod.specs.Arguments.{placesFit, commandFits}
 use Rattle.synod.specs.Slot as slot
 use Rattle.synod.specs.Slot.{Slot, Config, Fits, configOf, Ghost, after, noted}
-use Rattle.synod.proofs.Alike.{Same, Alike, ruled-alike, after-alike}
+use Rattle.synod.proofs.Alike.{Alike, alike-then, ruled-alike, after-alike}
 use Rattle.synod.proofs.Invariant.{Invariant}
 use Rattle.synod.proofs.Kept.{kept}
 use Rattle.layout.specs.Places.{Fit}
@@ -49,10 +49,6 @@ pub record Next (limits : List ℕ) (z : Sizes) (g : ℕ → Ghost) (σ : ℕ �
 abbrev pickGhost : Bool → Ghost → Ghost → Ghost
 pickGhost true a b = a
 pickGhost false a b = b
-
-alike-then : (c : Config) (σ τ υ : Slot) → Alike c σ τ → Alike c τ υ → Alike c σ υ
-alike-then c σ τ υ a b p l =
-    record { own = a p l .own ∙ b p l .own; disk = λ d k. a p l .disk d k ∙ b p l .disk d k }
 
 fits-of : (z : Sizes) → Fit z → Fits (configOf z)
 fits-of z f = record { servers = f .servers; drives = f .drives }
@@ -117,9 +113,7 @@ module _ (limits : List ℕ) (z : Sizes) (cells : List ℕ) (g : ℕ → Ghost) 
               whole = ruled-kept limits z cells (now .whole) st h k;
               alike =
                   λ t l.
-                  alike-then (configOf z) (afterAt z (offOf cells) t (σ t) st) (afterAt z (offOf cells) t (seen z cells t) st)
-                  (seen z (settled z cells (ruled z cells st)) t)
-                  (after-alike-at st h t l) (slot-tie z cells (now .whole .range .row) st h t l);
+                  alike-then (after-alike-at st h t l) (slot-tie z cells (now .whole .range .row) st h t l);
               holds = holds-after st h;
             };
         moves = moves-after st h;

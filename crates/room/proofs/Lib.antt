@@ -1,5 +1,4 @@
 -- Laws of open and step, for the crates above.
 pub mod OpenLaws
-pub mod Placed
 pub mod Checks
 pub mod ReadyLaws

@@ -6,7 +6,7 @@ use mathlib.Core.List.{List}
 use Rattle.state.specs.declared.Sizes.{Sizes}
 use Rattle.state.specs.declared.Step.{Step}
 use Rattle.synod.specs.Slot.{configOf}
-use Rattle.synod.proofs.Alike.{Alike}
+use Rattle.synod.proofs.Alike.{Alike, alike-same}
 use Rattle.layout.specs.Cells.{sizesOf, offOf}
 use Rattle.range.proofs.Laws.{range-says}
 use Rattle.room.specs.declared.effect.Effect.{Effect}
@@ -14,7 +14,7 @@ use Rattle.room.specs.Judge.{limitsOf, ruled, judged}
 use Rattle.room.specs.Step.{settled, stepped}
 use Rattle.room.proofs.Checks.{by-checks}
 use Rattle.step_laws.specs.Slots.{seen, concerns, afterAt}
-use Rattle.step_laws.proofs.SlotTie.{slot-tie, alike-same}
+use Rattle.step_laws.proofs.SlotTie.{slot-tie}
 
 pub slot-kept
     : (cells : List ℕ) (st : Step) (t : ℕ) → t < sizesOf cells .slots → concerns t st ≡ false
@@ -24,7 +24,7 @@ slot-kept cells st t h e =
     let z = sizesOf cells in
     by-checks cells st
     (λ (x : Effect). Alike (configOf z) (seen z cells t) (seen z (settled z cells x) t))
-    (λ a. alike-same z (seen z cells t))
-    (λ a b. alike-same z (seen z cells t))
-    (λ a b c. alike-same z (seen z cells t))
+    (λ a. alike-same (configOf z) (seen z cells t))
+    (λ a b. alike-same (configOf z) (seen z cells t))
+    (λ a b c. alike-same (configOf z) (seen z cells t))
     (λ a b c. rw e at (slot-tie z cells (range-says (limitsOf cells) cells a .row) st b t h))

@@ -18,19 +18,16 @@ use Rattle.synod.specs.Arguments.{placesFit}
 use Rattle.synod.specs.Rules.{offerRule, recallRule, rejoinRule, bidRule, writeRule, readRule, finishRule}
 use Rattle.synod.specs.Slot as slot
 use Rattle.synod.specs.Slot.{Slot, configOf, updated, withRecord, withBlock, after}
-use Rattle.synod.proofs.Alike.{Same, Alike}
+use Rattle.synod.proofs.Alike.{Alike, alike-same}
 use Rattle.quorum.specs.Marks.{marked, unmarked}
 use Rattle.layout.specs.Places.{Row}
 use Rattle.layout.specs.Cells.{offOf, serverOf, blockOf, putServer, putBlock}
 use Rattle.room.specs.declared.effect.Effect.the-variants as effect
 use Rattle.room.specs.Judge.{recording, blocking, ruled}
 use Rattle.room.specs.Step.{settled}
-use Rattle.room.proofs.Placed.{placed}
+use Rattle.synod.proofs.Places.{placed}
 use Rattle.step_laws.specs.Slots.{seen, concerns, pickSlot, afterAt}
 use Rattle.step_laws.proofs.Seen.{record-here, record-elsewhere, block-here, block-elsewhere, off-elsewhere, fail-everywhere}
-
-pub alike-same : (z : Sizes) (σ : Slot) → Alike (configOf z) σ σ
-alike-same z σ p l = record { own = refl; disk = λ d k. refl }
 
 -- a slot after a ruling on the record of server p, as every kind but Write has it
 abbrev recorded : Slot → ℕ → Ruling → Slot
@@ -79,27 +76,27 @@ write-blocks p s d σ (ruling.Accepted v a) = refl
 module _ (z : Sizes) (r : List ℕ) (row : Row z r) where
   record-tied : (s p : ℕ) (x : Ruling) → s < z .slots → p < z .servers → Alike (configOf z) (recorded (seen z r s) p x) (seen z (settled z r (recording s p x)) s)
   unfolding settled
-  record-tied s p (ruling.Refused n) h l = alike-same z (seen z r s)
+  record-tied s p (ruling.Refused n) h l = alike-same (configOf z) (seen z r s)
   record-tied s p (ruling.Accepted v a) h l = record-here z r row s p v h l
 
   record-apart
       : (s p t : ℕ) (x : Ruling) → p < z .servers → (s ≡ t → ⊥) → Alike (configOf z) (seen z r t) (seen z (settled z r (recording s p x)) t)
   unfolding settled
-  record-apart s p t (ruling.Refused n) l ne = alike-same z (seen z r t)
+  record-apart s p t (ruling.Refused n) l ne = alike-same (configOf z) (seen z r t)
   record-apart s p t (ruling.Accepted v a) l ne = record-elsewhere z r row s p v t l ne
 
   block-tied
       : (s d p : ℕ) (x : Ruling) → s < z .slots → d < z .drives → p < z .servers
       → Alike (configOf z) (blocked (seen z r s) d p x) (seen z (settled z r (blocking s d p x)) s)
   unfolding settled
-  block-tied s d p (ruling.Refused n) h g l = alike-same z (seen z r s)
+  block-tied s d p (ruling.Refused n) h g l = alike-same (configOf z) (seen z r s)
   block-tied s d p (ruling.Accepted v a) h g l = block-here z r row s d p v h g l
 
   block-apart
       : (s d p t : ℕ) (x : Ruling) → d < z .drives → p < z .servers → (s ≡ t → ⊥)
       → Alike (configOf z) (seen z r t) (seen z (settled z r (blocking s d p x)) t)
   unfolding settled
-  block-apart s d p t (ruling.Refused n) g l ne = alike-same z (seen z r t)
+  block-apart s d p t (ruling.Refused n) g l ne = alike-same (configOf z) (seen z r t)
   block-apart s d p t (ruling.Accepted v a) g l ne = block-elsewhere z r row s d p v t g l ne
 
   -- a step that names slot s: there as the machine of one slot has it, elsewhere nothing

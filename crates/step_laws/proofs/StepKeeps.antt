@@ -25,7 +25,7 @@ use Rattle.room.specs.declared.effect.Effect.{Effect}
 use Rattle.room.specs.declared.effect.Effect.the-variants as effect
 use Rattle.room.specs.Judge.{limitsOf, recording, blocking, ruled, judged}
 use Rattle.room.specs.Step.{settled, stepped}
-use Rattle.room.proofs.Placed.{placed}
+use Rattle.synod.proofs.Places.{placed}
 use Rattle.room.proofs.Checks.{by-checks}
 use Rattle.step_laws.proofs.RulesKeep.{Keeps, own-in, offer-keeps, recall-keeps, rejoin-keeps, bid-keeps, write-keeps, read-keeps, finish-keeps}
 use Rattle.step_laws.proofs.StoresKeep.{Whole, server-kept, block-kept, off-kept, failure-kept}

@@ -2,7 +2,7 @@
 -- So a slot read off the cells, where places beyond the room mean nothing, can follow one that is carried along.
 use Prim.Native.Nat.{ℕ, _<_}
 use mathlib.Core.Bool.{true}
-use mathlib.Core.Path.{_≡_, refl, ap, ap₂}
+use mathlib.Core.Path.{_≡_, refl, _∙_, ap, ap₂}
 use Rattle.state.specs.declared.Server.{Server}
 use Rattle.state.specs.declared.Sizes.{Sizes}
 use Rattle.state.specs.declared.Step.{Step}
@@ -13,7 +13,7 @@ use Rattle.synod.specs.declared.Ruling.the-variants.{Refused, Accepted}
 use Rattle.synod.specs.Arguments.{placesFit}
 use Rattle.synod.specs.Rules.{offerRule, recallRule, rejoinRule, bidRule, writeRule, readRule, finishRule}
 use Rattle.synod.specs.Slot.{Node, Slot, Config, configOf, updated, withRecord, withBlock, ruled, after}
-use Rattle.synod.proofs.Places.{on-server, on-drive, on-read}
+use Rattle.synod.proofs.Places.{at-server, at-drive, at-other}
 use Rattle.synod.proofs.Update.{both-everywhere}
 
 -- one server's node, seen from both
@@ -23,6 +23,12 @@ pub record Same (c : Config) (n m : Node) : Type 0 where
 
 abbrev pub Alike : Config → Slot → Slot → Type 0
 Alike c σ τ = (p : ℕ) → p < c .servers → Same c (σ p) (τ p)
+
+pub alike-same : (c : Config) (σ : Slot) → Alike c σ σ
+alike-same c σ p l = record { own = refl; disk = λ d k. refl }
+
+pub alike-then : {c : Config} {σ τ υ : Slot} → Alike c σ τ → Alike c τ υ → Alike c σ υ
+alike-then a b p l = record { own = a p l .own ∙ b p l .own; disk = λ d k. a p l .disk d k ∙ b p l .disk d k }
 
 module _ {c : Config} {σ τ : Slot} (like : Alike c σ τ) where
   updated-alike : (p : ℕ) (n m : Node) → (p < c .servers → Same c n m) → Alike c (updated σ p n) (updated τ p m)
@@ -65,17 +71,17 @@ module _ (z : Sizes) (off : ℕ) {σ τ : Slot} (like : Alike (configOf z) σ τ
 
   pub ruled-alike : (st : Step) → placesFit z st ≡ true → ruled (configOf z) off σ st ≡ ruled (configOf z) off τ st
   unfolding placesFit ruled
-  ruled-alike (Offer p s v) h = ap (λ x. offerRule x v) (own p (on-server z p s h))
+  ruled-alike (Offer p s v) h = ap (λ x. offerRule x v) (own p (at-server z p s h .server))
   ruled-alike (Recall p s d) h =
-      let at = on-drive z p s d h in
+      let at = at-drive z p s d h in
       ap₂ (λ x b. recallRule off x b p d) (own p (at .server)) (like p (at .server) .disk d (at .drive))
-  ruled-alike (Rejoin p s b) h = ap (λ x. rejoinRule (z .servers) (z .drives) x p b) (own p (on-server z p s h))
-  ruled-alike (Bid p s b) h = ap (λ x. bidRule (z .servers) x p b) (own p (on-server z p s h))
-  ruled-alike (Write p s d) h = ap (λ x. writeRule off x d) (own p (on-drive z p s d h .server))
+  ruled-alike (Rejoin p s b) h = ap (λ x. rejoinRule (z .servers) (z .drives) x p b) (own p (at-server z p s h .server))
+  ruled-alike (Bid p s b) h = ap (λ x. bidRule (z .servers) x p b) (own p (at-server z p s h .server))
+  ruled-alike (Write p s d) h = ap (λ x. writeRule off x d) (own p (at-drive z p s d h .server))
   ruled-alike (Read p s d q) h =
-      let at = on-read z p s d q h in
+      let at = at-other z p s d q h in
       ap₂ (λ x b. readRule (z .servers) off x b p d q) (own p (at .server)) (like q (at .other) .disk d (at .drive))
-  ruled-alike (Finish p s) h = ap (λ x. finishRule (z .servers) (z .drives) x p) (own p (on-server z p s h))
+  ruled-alike (Finish p s) h = ap (λ x. finishRule (z .servers) (z .drives) x p) (own p (at-server z p s h .server))
   ruled-alike (Fail p) h = refl
   ruled-alike (DriveOff d) h = refl
   ruled-alike (DriveOn d) h = refl

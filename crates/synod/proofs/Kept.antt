@@ -15,7 +15,7 @@ use Rattle.synod.specs.declared.Ruling.the-variants.{Refused, Accepted}
 use Rattle.synod.specs.Arguments.{placesFit}
 use Rattle.synod.specs.Rules.{offerRule, recallRule, rejoinRule, bidRule, writeRule, readRule, finishRule}
 use Rattle.synod.specs.Slot.{Slot, Config, Fits, configOf, Ghost, ruled, after, noted, heard}
-use Rattle.synod.proofs.Places.{on-server, on-drive, on-read}
+use Rattle.synod.proofs.Places.{at-server, at-drive, at-other}
 use Rattle.synod.proofs.Rulings.{recall-cases, rejoin-cases, bid-cases, write-cases, read-cases, finish-cases}
 use Rattle.synod.proofs.Invariant.{Invariant}
 use Rattle.synod.proofs.Frame.{frame}
@@ -91,18 +91,18 @@ module _ (z : Sizes) (fits : Fits (configOf z)) (off : ℕ) {g : Ghost} {σ : Sl
   pub kept : (st : Step) → placesFit z st ≡ true
       → Invariant (configOf z) (noted g σ st (ruled (configOf z) off σ st)) (after σ st (ruled (configOf z) off σ st))
   unfolding placesFit ruled
-  kept (Offer p s v) h = offer-kept inv p (on-server z p s h) s v
-  kept (Recall p s d) h = recall-kept inv p (on-drive z p s d h .server) s off d
-  kept (Rejoin p s b) h = rejoin-kept inv p (on-server z p s h) s b
-  kept (Bid p s b) h = bid-kept inv p (on-server z p s h) s b
+  kept (Offer p s v) h = offer-kept inv p (at-server z p s h .server) s v
+  kept (Recall p s d) h = recall-kept inv p (at-drive z p s d h .server) s off d
+  kept (Rejoin p s b) h = rejoin-kept inv p (at-server z p s h .server) s b
+  kept (Bid p s b) h = bid-kept inv p (at-server z p s h .server) s b
   kept (Write p s d) h =
-      let at = on-drive z p s d h in
+      let at = at-drive z p s d h in
       let few = fits .drives in
       write-kept inv p (at .server) s off d (omega (arith, at .drive))
   kept (Read p s d q) h =
-      let at = on-read z p s d q h in
+      let at = at-other z p s d q h in
       read-kept inv p (at .server) s fits off d q (at .other)
-  kept (Finish p s) h = finish-kept inv p (on-server z p s h) s
+  kept (Finish p s) h = finish-kept inv p (at-server z p s h .server) s
   kept (Fail p) h = fail-kept inv p (ltb-true p (z .servers) h) 0
   kept (DriveOff d) h = refused inv (DriveOff d) 0
   kept (DriveOn d) h = refused inv (DriveOn d) 0

@@ -21,7 +21,7 @@ use native.Mathlib.Omega.{arith}
 use mathlib.Core.Path.{_∙_, sym, ap, subst}
 use Rattle.layout.proofs.PlaceLaws.{base-room}
 use Rattle.room.specs.Judge.{ruled}
-use Rattle.room.proofs.Placed.{Placed, placed}
+use Rattle.synod.proofs.Places.{Placed, placed}
 
 shared-slice-read-off : tie.Need-shared-slice-read-off
 shared-slice-read-off c =
