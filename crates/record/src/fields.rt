@@ -33,41 +33,16 @@ pub(crate) fn fields_of(step: Step) -> Fields
     ensures { λ r. ⌜ r ≡ fieldsOf step ⌝ }
 {
     match step {
-        Step::Offer {
-            server,
-            slot,
-            command,
-        } => Fields::new(1, server, slot, 0, 0, command),
-        Step::Recall {
-            server,
-            slot,
-            drive,
-        } => Fields::new(2, server, slot, drive, 0, 0),
-        Step::Rejoin {
-            server,
-            slot,
-            ballot,
-        } => Fields::new(3, server, slot, 0, 0, ballot),
-        Step::Bid {
-            server,
-            slot,
-            ballot,
-        } => Fields::new(4, server, slot, 0, 0, ballot),
-        Step::Write {
-            server,
-            slot,
-            drive,
-        } => Fields::new(5, server, slot, drive, 0, 0),
-        Step::Read {
-            server,
-            slot,
-            drive,
-            other,
-        } => Fields::new(6, server, slot, drive, other, 0),
-        Step::Finish { server, slot } => Fields::new(7, server, slot, 0, 0, 0),
-        Step::Fail { server } => Fields::new(8, server, 0, 0, 0, 0),
-        Step::DriveOff { drive } => Fields::new(9, 0, 0, drive, 0, 0),
-        Step::DriveOn { drive } => Fields::new(10, 0, 0, drive, 0, 0),
+        Step::Offer(server, slot, command) => Fields::new(1, server, slot, 0, 0, command),
+        Step::Recall(server, slot, drive) => Fields::new(2, server, slot, drive, 0, 0),
+        Step::Rejoin(server, slot, ballot) => Fields::new(3, server, slot, 0, 0, ballot),
+        Step::Bid(server, slot, ballot) => Fields::new(4, server, slot, 0, 0, ballot),
+        Step::Write(server, slot, drive) => Fields::new(5, server, slot, drive, 0, 0),
+        Step::Read(server, slot, drive, other) => Fields::new(6, server, slot, drive, other, 0),
+        Step::Finish(server, slot) => Fields::new(7, server, slot, 0, 0, 0),
+        Step::Fail(server) => Fields::new(8, server, 0, 0, 0, 0),
+        Step::DriveOff(drive) => Fields::new(9, 0, 0, drive, 0, 0),
+        Step::DriveOn(drive) => Fields::new(10, 0, 0, drive, 0, 0),
     }
 }
 
@@ -80,40 +55,15 @@ pub(crate) fn step_of(f: Fields) -> Step
     let slot = f.slot;
     let drive = f.drive;
     match kind {
-        1 => Step::Offer {
-            server,
-            slot,
-            command: f.number,
-        },
-        2 => Step::Recall {
-            server,
-            slot,
-            drive,
-        },
-        3 => Step::Rejoin {
-            server,
-            slot,
-            ballot: f.number,
-        },
-        4 => Step::Bid {
-            server,
-            slot,
-            ballot: f.number,
-        },
-        5 => Step::Write {
-            server,
-            slot,
-            drive,
-        },
-        6 => Step::Read {
-            server,
-            slot,
-            drive,
-            other: f.other,
-        },
-        7 => Step::Finish { server, slot },
-        8 => Step::Fail { server },
-        9 => Step::DriveOff { drive },
-        _ => Step::DriveOn { drive },
+        1 => Step::Offer(server, slot, f.number),
+        2 => Step::Recall(server, slot, drive),
+        3 => Step::Rejoin(server, slot, f.number),
+        4 => Step::Bid(server, slot, f.number),
+        5 => Step::Write(server, slot, drive),
+        6 => Step::Read(server, slot, drive, f.other),
+        7 => Step::Finish(server, slot),
+        8 => Step::Fail(server),
+        9 => Step::DriveOff(drive),
+        _ => Step::DriveOn(drive),
     }
 }

@@ -87,75 +87,33 @@ fn rule(room: &[u32], z: Sizes, step: Step) -> Effect
 {
     let off = room[3];
     match step {
-        Step::Offer {
-            server: p,
-            slot: s,
-            command,
-        } => recorded(s, p, rules::offer(server(room, z, s, p), command)),
-        Step::Recall {
-            server: p,
-            slot: s,
-            drive: d,
-        } => {
-            recorded(
-                s,
-                p,
-                rules::recall(off, server(room, z, s, p), block(room, z, s, d, p), p, d),
-            )
+        Step::Offer(p, s, command) => recorded(s, p, rules::offer(server(room, z, s, p), command)),
+        Step::Recall(p, s, d) => {
+            let v = server(room, z, s, p);
+            let b = block(room, z, s, d, p);
+            recorded(s, p, rules::recall(off, v, b, p, d))
         }
-        Step::Rejoin {
-            server: p,
-            slot: s,
-            ballot,
-        } => {
-            recorded(
-                s,
-                p,
-                rules::rejoin(z.servers, z.drives, server(room, z, s, p), p, ballot),
-            )
+        Step::Rejoin(p, s, ballot) => {
+            let v = server(room, z, s, p);
+            recorded(s, p, rules::rejoin(z.servers, z.drives, v, p, ballot))
         }
-        Step::Bid {
-            server: p,
-            slot: s,
-            ballot,
-        } => recorded(
-            s,
-            p,
-            rules::bid(z.servers, server(room, z, s, p), p, ballot),
-        ),
-        Step::Write {
-            server: p,
-            slot: s,
-            drive: d,
-        } => blocked(s, d, p, rules::write(off, server(room, z, s, p), d)),
-        Step::Read {
-            server: p,
-            slot: s,
-            drive: d,
-            other: q,
-        } => {
-            recorded(
-                s,
-                p,
-                rules::read(
-                    z.servers,
-                    off,
-                    server(room, z, s, p),
-                    block(room, z, s, d, q),
-                    p,
-                    d,
-                    q,
-                ),
-            )
+        Step::Bid(p, s, ballot) => {
+            let v = server(room, z, s, p);
+            recorded(s, p, rules::bid(z.servers, v, p, ballot))
         }
-        Step::Finish { server: p, slot: s } => recorded(
-            s,
-            p,
-            rules::finish(z.servers, z.drives, server(room, z, s, p), p),
-        ),
-        Step::Fail { server: p } => Effect::Failure { server: p },
-        Step::DriveOff { drive: d } => Effect::Off(with_mark(off, d as u32)),
-        Step::DriveOn { drive: d } => Effect::Off(without_mark(off, d as u32)),
+        Step::Write(p, s, d) => blocked(s, d, p, rules::write(off, server(room, z, s, p), d)),
+        Step::Read(p, s, d, q) => {
+            let v = server(room, z, s, p);
+            let b = block(room, z, s, d, q);
+            recorded(s, p, rules::read(z.servers, off, v, b, p, d, q))
+        }
+        Step::Finish(p, s) => {
+            let v = server(room, z, s, p);
+            recorded(s, p, rules::finish(z.servers, z.drives, v, p))
+        }
+        Step::Fail(p) => Effect::Failure { server: p },
+        Step::DriveOff(d) => Effect::Off(with_mark(off, d as u32)),
+        Step::DriveOn(d) => Effect::Off(without_mark(off, d as u32)),
     }
 }
 

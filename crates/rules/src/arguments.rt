@@ -10,46 +10,21 @@ pub fn places_fit(z: Sizes, step: Step) -> bool
     ensures { λ r. ⌜ r ≡ placesFit z step ⌝ }
 {
     match step {
-        Step::Offer {
-            server,
-            slot,
-            command: _,
-        } => in_room(z, server, slot),
-        Step::Recall {
-            server,
-            slot,
-            drive,
-        } => in_room(z, server, slot) & ((drive as u32) < z.drives),
-        Step::Rejoin {
-            server,
-            slot,
-            ballot: _,
-        } => in_room(z, server, slot),
-        Step::Bid {
-            server,
-            slot,
-            ballot: _,
-        } => in_room(z, server, slot),
-        Step::Write {
-            server,
-            slot,
-            drive,
-        } => in_room(z, server, slot) & ((drive as u32) < z.drives),
-        Step::Read {
-            server,
-            slot,
-            drive,
-            other,
-        } => {
+        Step::Offer(server, slot, _) => in_room(z, server, slot),
+        Step::Recall(server, slot, drive) => in_room(z, server, slot) & ((drive as u32) < z.drives),
+        Step::Rejoin(server, slot, _) => in_room(z, server, slot),
+        Step::Bid(server, slot, _) => in_room(z, server, slot),
+        Step::Write(server, slot, drive) => in_room(z, server, slot) & ((drive as u32) < z.drives),
+        Step::Read(server, slot, drive, other) => {
             in_room(z, server, slot)
                 & ((drive as u32) < z.drives)
                 & ((other as u32) < z.servers)
                 & (other != server)
         }
-        Step::Finish { server, slot } => in_room(z, server, slot),
-        Step::Fail { server } => (server as u32) < z.servers,
-        Step::DriveOff { drive } => (drive as u32) < z.drives,
-        Step::DriveOn { drive } => (drive as u32) < z.drives,
+        Step::Finish(server, slot) => in_room(z, server, slot),
+        Step::Fail(server) => (server as u32) < z.servers,
+        Step::DriveOff(drive) => (drive as u32) < z.drives,
+        Step::DriveOn(drive) => (drive as u32) < z.drives,
     }
 }
 
@@ -63,11 +38,7 @@ fn in_room(z: Sizes, server: u8, slot: u8) -> bool
 pub fn command_fits(limits: &[u32; 8], step: Step) -> bool
     ensures { λ r. ⌜ r ≡ commandFits (now (limits .entry)) step ⌝ }
 {
-    if let Step::Offer {
-        server: _,
-        slot: _,
-        command,
-    } = step {
+    if let Step::Offer(_, _, command) = step {
         is_command(limits, command)
     } else {
         true

@@ -87,52 +87,29 @@ impl Server {
     }
 }
 
-// A step, one of ten kinds with its own numbers.
+// A step, one of ten kinds with its own numbers: server, slot, drive and other as bytes, in this order, then the
+// number, a command or a ballot.
 pub enum Step {
-    Offer {
-        server: u8,
-        slot: u8,
-        command: u32,
-    },
-    Recall {
-        server: u8,
-        slot: u8,
-        drive: u8,
-    },
-    Rejoin {
-        server: u8,
-        slot: u8,
-        ballot: u32,
-    },
-    Bid {
-        server: u8,
-        slot: u8,
-        ballot: u32,
-    },
-    Write {
-        server: u8,
-        slot: u8,
-        drive: u8,
-    },
-    Read {
-        server: u8,
-        slot: u8,
-        drive: u8,
-        other: u8,
-    },
-    Finish {
-        server: u8,
-        slot: u8,
-    },
-    Fail {
-        server: u8,
-    },
-    DriveOff {
-        drive: u8,
-    },
-    DriveOn {
-        drive: u8,
-    },
+    // server, slot, command
+    Offer(u8, u8, u32),
+    // server, slot, drive
+    Recall(u8, u8, u8),
+    // server, slot, ballot
+    Rejoin(u8, u8, u32),
+    // server, slot, ballot
+    Bid(u8, u8, u32),
+    // server, slot, drive
+    Write(u8, u8, u8),
+    // server, slot, drive, other
+    Read(u8, u8, u8, u8),
+    // server, slot
+    Finish(u8, u8),
+    // server
+    Fail(u8),
+    // drive
+    DriveOff(u8),
+    // drive
+    DriveOn(u8),
 }
 
 // What a step answers: outbid with the ballot found, chosen and committed with the command, refused with its number.
