@@ -14,7 +14,7 @@ use Rattle.range.specs.Range.{inRange}
 use Rattle.range.proofs.Laws.{says-range}
 use Rattle.room.specs.Judge.{limitsOf}
 use Rattle.room.specs.Step.{answered, stepped}
-use Rattle.history.specs.Run.{Event, history, Always, orElse, outputBy, firstOutput, OfferedEarlier}
+use Rattle.history.specs.Run.{Event, history, Always, orElse, outputBy, firstOutput, Move, Offers, Chooses, Fails, Rests, moveOf, WhenChooses, OfferedEarlier, AllCommit}
 use Rattle.history.specs.Machine.{Equal, Follows, ends, goes}
 use Rattle.history.proofs.Firsts.{or-some, or-assoc, firstCommand, first-of}
 use Rattle.history.proofs.SlotMoves.{machineOf}
@@ -48,6 +48,32 @@ module _ (z : Sizes) where
         n .moves t h .early,
         subst (λ (l : List ℕ). OfferedEarlier t l (history (stepped cells st) sts)) (n .moves t h .hears)
             (offered-earlier (stepped cells st) (n .ghosts) (n .slots) (n .moment) sts t h),
+      )
+
+  -- what is claimed of a committed answer may be weakened
+  chooses-map : (m : Move) (A B : Type 0) → (A → B) → WhenChooses m A → WhenChooses m B
+  chooses-map (Offers p v) A B f a = tt
+  chooses-map (Chooses p) A B f a = f a
+  chooses-map (Fails p) A B f a = tt
+  chooses-map Rests A B f a = tt
+
+  pub all-commit
+      : (cells : List ℕ) (g : ℕ → Ghost) (σ : ℕ → Slot) → Moment (limitsOf cells) z cells g σ → (steps : List Step) (t : ℕ) → t < z .slots
+      → (v : ℕ) → v ≡ orElse (firstCommand (g t .commits)) (firstOutput t (history cells steps)) → AllCommit t v (history cells steps)
+  unfolding history firstOutput outputBy AllCommit
+  all-commit cells g σ now [] t h v e = tt
+  all-commit cells g σ now (st ∷ sts) t h v e =
+      let n = next z cells g σ now st in
+      let out = outputBy t (record { step = st; answer = answered cells st }) in
+      let rest = firstOutput t (history (stepped cells st) sts) in
+      let e2 : v ≡ orElse (firstCommand (n .ghosts t .commits)) rest =
+      e ∙ sym (or-assoc (firstCommand (g t .commits)) out rest) ∙ ap (λ (x : ℕ). orElse x rest) (sym (n .moves t h .first)) in (
+        chooses-map (moveOf t st (answered cells st)) _ _
+            (λ a.
+            let is : v ≡ out = e2 ∙ ap (λ (x : ℕ). orElse x rest) (sym (a .0)) ∙ or-some out rest (a .1) in
+            (sym is, λ k. a .1 (sym is ∙ k)))
+            (n .moves t h .agrees),
+        all-commit (stepped cells st) (n .ghosts) (n .slots) (n .moment) sts t h v e2,
       )
 
   -- a room of a run, whose outputs are those of the list first

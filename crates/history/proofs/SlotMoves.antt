@@ -13,8 +13,8 @@ use Rattle.synod.proofs.Agreement.{agree, valid}
 use Rattle.synod.proofs.Ghosts.{tried}
 use Rattle.synod.proofs.Invariant.{Invariant}
 use Rattle.synod.proofs.Outputs.{outputs, offers, told}
-use Rattle.history.specs.Run.{Move, Offers, Chooses, Fails, Rests, pickMove, committed, outputIn, orElse, given}
-use Rattle.history.specs.Machine.{Machine, withOutput, Chosen, Makes}
+use Rattle.history.specs.Run.{Move, Offers, Chooses, Fails, Rests, pickMove, committed, outputIn, orElse, given, WhenChooses}
+use Rattle.history.specs.Machine.{Machine, withOutput, Choose, Makes}
 use Rattle.history.proofs.Firsts.{or-none, or-some, by-zero, or-zero, firstCommand, first-of}
 
 -- the machine that a slot and its past stand for
@@ -26,11 +26,12 @@ pub record Moves (g : Ghost) (σ : Slot) (m : Move) (out : ℕ) (h : Ghost) (τ 
   pub makes : Makes m (machineOf g σ) (machineOf h τ)
   pub first : firstCommand (h .commits) ≡ orElse (firstCommand (g .commits)) out
   pub hears : h .offered ≡ given m (g .offered)
-  pub early : (out ≡ 0 → ⊥) → List·Memᴰ out (g .offered)
+  pub early : WhenChooses m (List·Memᴰ out (g .offered))
+  pub agrees : WhenChooses m ((out ≡ firstCommand (h .commits)) × (out ≡ 0 → ⊥))
 
 pub rests : (g : Ghost) (σ : Slot) → Moves g σ Rests 0 g σ
 rests g σ =
-    record { makes = refl; first = sym (or-zero (firstCommand (g .commits))); hears = refl; early = λ n. absurd (n refl) }
+    record { makes = refl; first = sym (or-zero (firstCommand (g .commits))); hears = refl; early = tt; agrees = tt }
 
 same-machine
     : (g : Ghost) (σ τ : Slot) → ((q : ℕ) → outputs τ q ≡ outputs σ q) → ((q : ℕ) → offers τ q ≡ offers σ q)
@@ -54,7 +55,8 @@ quietly g h σ τ a b outs offs =
           };
       first = ap firstCommand b ∙ sym (or-zero (firstCommand (g .commits)));
       hears = a;
-      early = λ n. absurd (n refl);
+      early = tt;
+      agrees = tt;
     }
 
 -- a commit is a Choose: the server had no output, and the command is the one chosen before or a member of given
@@ -80,7 +82,8 @@ commits c g σ τ p b y inv none outs offs =
           };
       first = refl;
       hears = refl;
-      early = λ n. this .1;
+      early = this .1;
+      agrees = (sym now, this .0);
     }
 
 -- a step whose ruling is accepted with the answer a, by server p

@@ -121,7 +121,8 @@ module _ (c : Config) (off : ℕ) (g : Ghost) (σ : Slot) where
             };
         first = sym (or-zero (firstCommand (g .commits)));
         hears = refl;
-        early = λ n. absurd (n refl);
+        early = tt;
+        agrees = tt;
       }
 
   failed
@@ -139,7 +140,8 @@ module _ (c : Config) (off : ℕ) (g : Ghost) (σ : Slot) where
             };
         first = sym (or-zero (firstCommand (g .commits)));
         hears = refl;
-        early = λ n. absurd (n refl);
+        early = tt;
+        agrees = tt;
       }
 
 module _ (z : Sizes) (fits : Fits (configOf z)) (off : ℕ) (g : Ghost) (σ : Slot) (inv : Invariant (configOf z) g σ) where

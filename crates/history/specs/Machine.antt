@@ -37,7 +37,7 @@ withoutServer m p =
     record { offers = updated (m .offers) p 0; outputs = updated (m .outputs) p 0; given = m .given; chosen = m .chosen }
 
 -- "Choose(p), output of p none: if chosen is none it becomes some member of given; p's output is chosen"
-pub record Chosen (m : Machine) (p : ℕ) (n : Machine) : Type 0 where
+pub record Choose (m : Machine) (p : ℕ) (n : Machine) : Type 0 where
   pub choice : ℕ
   pub no-output : m .outputs p ≡ 0
   pub member : m .chosen ≡ 0 → List·Memᴰ choice (m .given)
@@ -47,7 +47,7 @@ pub record Chosen (m : Machine) (p : ℕ) (n : Machine) : Type 0 where
 -- the move takes the machine from m to n
 abbrev pub Makes : Move → Machine → Machine → Type 0
 Makes (Offers p v) m n = n ≡ withOffer m p v
-Makes (Chooses p) m n = Chosen m p n
+Makes (Chooses p) m n = Choose m p n
 Makes (Fails p) m n = n ≡ withoutServer m p
 Makes Rests m n = n ≡ m
 

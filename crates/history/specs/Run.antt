@@ -53,6 +53,7 @@ pickMove false a b = b
 abbrev pub choosing : ℕ → ℕ → ℕ → Answer → Move
 choosing t s p a = pickMove (committed a && eqb s t) (Chooses p) Rests
 
+-- A Choose is read off the answer, not off the kind: today only Finish commits. 01:
 -- "Accepted Offer and Fail steps make that move (Offer in the slot named, Fail in every slot), a committed Finish makes
 -- Choose(p) in its slot; any other step, and any refusal, none"
 unfoldable pub moveOf : ℕ → Step → Answer → Move
@@ -93,9 +94,23 @@ given (Chooses p) l = l
 given (Fails p) l = l
 given Rests l = l
 
+-- a claim about a committed answer: nothing is claimed of any other
+abbrev pub WhenChooses : Move → Type 0 → Type 0
+WhenChooses (Offers p v) A = Unit {0}
+WhenChooses (Chooses p) A = A
+WhenChooses (Fails p) A = Unit {0}
+WhenChooses Rests A = Unit {0}
+
 -- every committed answer is with a command that was offered for its slot by an accepted Offer at an earlier step: seen
 -- holds the commands offered before the history begins
 unfoldable pub OfferedEarlier : ℕ → List ℕ → List Event → Type 0
 OfferedEarlier t seen [] = Unit {0}
 OfferedEarlier t seen (e ∷ h) =
-    ((outputBy t e ≡ 0 → ⊥) → List·Memᴰ (outputBy t e) seen) × OfferedEarlier t (given (moveOf t (e .step) (e .answer)) seen) h
+    WhenChooses (moveOf t (e .step) (e .answer)) (List·Memᴰ (outputBy t e) seen)
+    × OfferedEarlier t (given (moveOf t (e .step) (e .answer)) seen) h
+
+-- every committed answer in the slot is with the command v, which is not 0
+unfoldable pub AllCommit : ℕ → ℕ → List Event → Type 0
+AllCommit t v [] = Unit {0}
+AllCommit t v (e ∷ h) =
+    WhenChooses (moveOf t (e .step) (e .answer)) ((outputBy t e ≡ v) × (v ≡ 0 → ⊥)) × AllCommit t v h

@@ -22,7 +22,7 @@ use Rattle.room.specs.Step.{stepped}
 use Rattle.room.proofs.OpenLaws.{opens-1}
 use Rattle.history.specs.Run.{history, Always, orElse, firstOutput}
 use Rattle.history.proofs.Opened.{opens}
-use Rattle.history.proofs.Runs.{follows, offered-earlier, Shown, shown}
+use Rattle.history.proofs.Runs.{follows, offered-earlier, all-commit, Shown, shown}
 use Rattle.catalogue.specs.Fold.{pieces, folded, start}
 use Rattle.catalogue.specs.Outputs.{outputAt, leading, outputsOf}
 use Rattle.catalogue.specs.Call.{entriesOf, counted, catalogueOf, catalogueCells}
@@ -91,6 +91,7 @@ from-opened z fit steps =
       catalogues =
           always-map (Shown z first) (AllShow z (leading first 0 (z .slots))) (shows z first) cells steps
           (shown z cells (λ t. noGhost) (λ t. blankSlot) now steps first (λ t h. refl));
+      agreed = λ t h. all-commit z cells (λ t. noGhost) (λ t. blankSlot) now steps t h (first t) refl;
       offered = offered-earlier z cells (λ t. noGhost) (λ t. blankSlot) now steps;
     }
 

@@ -6,7 +6,7 @@ use lib.ListN.{length, take}
 use Rattle.command.specs.Command.{cabinetLimits}
 use Rattle.state.specs.declared.Sizes.{Sizes}
 use Rattle.state.specs.declared.Step.{Step}
-use Rattle.history.specs.Run.{Event, history, Always, firstOutput, OfferedEarlier}
+use Rattle.history.specs.Run.{Event, history, Always, firstOutput, OfferedEarlier, AllCommit}
 use Rattle.history.specs.Machine.{atFirst, Follows}
 use Rattle.catalogue.specs.Fold.{pieces, folded, start}
 use Rattle.catalogue.specs.Outputs.{leading}
@@ -35,5 +35,7 @@ pub record OneHistory (z : Sizes) (cells : List ℕ) (steps : List Step) : Type 
   pub machines : (t : ℕ) → t < z .slots → Follows z t atFirst cells steps
   -- "the run has one list of commands, and every catalogue at any moment is the result of its first k"
   pub catalogues : Always (AllShow z (commandsOf z (history cells steps))) cells steps
+  -- the answers agree too: every committed answer in a slot is with its one command
+  pub agreed : (t : ℕ) → t < z .slots → AllCommit t (firstOutput t (history cells steps)) (history cells steps)
   -- "A command was offered for a slot by an accepted Offer of it there": at an earlier step than any output of it
   pub offered : (t : ℕ) → t < z .slots → OfferedEarlier t [] (history cells steps)

@@ -1,0 +1,84 @@
+-- The examples, by computing every answer and the last catalogues.
+use mathlib.Core.Path.{refl}
+use lib.Count.{onesIn, ones}
+use Rattle.command.specs.Command.{limitOf, hoardFits, isCommand}
+use Rattle.ballot.specs.Ballot.{owned, leastAbove, nextOwn}
+use Rattle.quorum.specs.Marks.{stands, marked}
+use Rattle.quorum.specs.Sets.{allBelow, size, gathered, majority, within}
+use Rattle.synod.specs.Arguments.{placesFit, commandFits}
+use Rattle.synod.specs.Changes.{offering, meeting, marking, topping, recalling, rejoining, bidding, writing, reading, proposing, committing}
+use Rattle.synod.specs.Rules.{must, offerRule, recallRule, rejoinRule, writeRule, outbidRule, readRule, finishRule}
+use Rattle.layout.specs.Places.{slotLength, roomLength, slotAt, serverAt, nthBlockAt, blockAt, sizesFit}
+use Rattle.layout.specs.Cells.{serverOf, putServer, blockOf, putBlock}
+use Rattle.range.specs.Range.{legalDrives, legalReads, valueFits, numbersFit, serverFits, blockFits, serversFit, blocksFit, slotFits, cellsFit, inRange}
+use Rattle.room.specs.Open.{openedCells, opening, opened}
+use Rattle.room.specs.Judge.{check, ruled, judged}
+use Rattle.room.specs.Step.{failedBelow, settled, answered, stepped}
+use Rattle.catalogue.specs.Call as call
+use Rattle.catalogue.specs.Call.{entriesOf, catalogueOf, catalogueCells}
+use Rattle.catalogue.specs.Entry.{applies, entry}
+use Rattle.catalogue.specs.Fold.{cellsAfter, skippedBy, folded}
+use Rattle.catalogue.specs.Outputs.{outputAt, leading, outputsOf}
+use Rattle.starred.specs.Runs.{newRoom, sameAnswer, follows}
+use Rattle.history.specs.Run.{ran, moveOf, outputBy, firstOutput}
+use Rattle.register.specs.OneHistory.{commandsOf}
+use Rattle.witness.specs.Example.{stepsOf, said, Holds}
+use Rattle.witness.specs.Runs.{survivor, rivals, gap}
+use Rattle.witness.proofs.Reading.{eventsOf, Computed, holds}
+
+-- the line names all that the definitions of open, step and catalogue are made of
+computed : Computed survivor × Computed rivals × Computed gap
+unfolding survivor rivals gap newRoom sameAnswer follows stepsOf ran onesIn ones
+    limitOf hoardFits isCommand owned leastAbove nextOwn stands marked allBelow size gathered majority within
+    placesFit commandFits
+    offering meeting marking topping recalling rejoining bidding writing reading proposing committing
+    must offerRule recallRule rejoinRule writeRule outbidRule readRule finishRule
+    slotLength roomLength slotAt serverAt nthBlockAt blockAt sizesFit serverOf putServer blockOf putBlock
+    legalDrives legalReads valueFits numbersFit serverFits blockFits serversFit blocksFit slotFits cellsFit inRange
+    openedCells opening opened check ruled judged failedBelow settled answered stepped
+    applies entry cellsAfter skippedBy folded outputAt leading outputsOf entriesOf call.must catalogueOf catalogueCells
+    eventsOf said commandsOf firstOutput outputBy moveOf
+computed = (
+  record {
+    servers = refl;
+    opens = refl;
+    answers = refl;
+    chosen = refl;
+    committed = refl;
+    commands = refl;
+    server0 = record { answer = refl; cells = refl };
+    server1 = record { answer = refl; cells = refl };
+  },
+  record {
+    servers = refl;
+    opens = refl;
+    answers = refl;
+    chosen = refl;
+    committed = refl;
+    commands = refl;
+    server0 = record { answer = refl; cells = refl };
+    server1 = record { answer = refl; cells = refl };
+  },
+  record {
+    servers = refl;
+    opens = refl;
+    answers = refl;
+    chosen = refl;
+    committed = refl;
+    commands = refl;
+    server0 = record { answer = refl; cells = refl };
+    server1 = record { answer = refl; cells = refl };
+  },
+)
+
+-- one server commits and fails, and the other, with another offer, commits the same command
+pub survivor-holds : Holds survivor
+survivor-holds = holds survivor (computed .0)
+
+-- two servers answer different chosen commands, and both commit the same
+pub rivals-hold : Holds rivals
+rivals-hold = holds rivals (computed .1)
+
+-- a commit beyond an empty slot is in no list and in no catalogue
+pub gap-holds : Holds gap
+gap-holds = holds gap (computed .2)

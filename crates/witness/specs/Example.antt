@@ -1,0 +1,77 @@
+-- What an example says: a run in a room just opened, its answers, and what demand 3 makes of them.
+use Prim.Native.Nat.{ℕ, _<_}
+use mathlib.Core.Bool.{cond}
+use mathlib.Core.List.{List, [], _∷_}
+use mathlib.Core.Path.{_≡_}
+use lib.Dec.{eqb}
+use lib.ListN.{getD, take, replicate}
+use Rattle.command.specs.Command.{cabinetLimits}
+use Rattle.state.specs.declared.Sizes.{Sizes}
+use Rattle.state.specs.declared.Step.{Step}
+use Rattle.state.specs.Answers.{codeOf, numberOf}
+use Rattle.catalogue.specs.Call.{catalogueOf, catalogueCells}
+use Rattle.catalogue.specs.Fold.{pieces, folded, start}
+use Rattle.catalogue.specs.declared.Listing.the-variants.{Counted}
+use Rattle.starred.specs.Runs.{newRoom, Line, _↝_, Own, OnDrive, Follows}
+use Rattle.history.specs.Run.{Event, ran, history}
+use Rattle.register.specs.OneHistory.{commandsOf, OneHistory}
+
+-- a run with what is expected of it
+pub record Example : Type 0 where
+  pub sizes : Sizes
+  -- the steps, and beside each its answer
+  pub run : List Line
+  -- the commands answered as chosen and as committed, in order
+  pub chosen : List ℕ
+  pub committed : List ℕ
+  -- the run's list of commands
+  pub commands : List ℕ
+  -- by server: how many of them its catalogue takes at the end, and the cells that it leaves
+  pub taken : List ℕ
+  pub left : List (List ℕ)
+
+unfoldable pub stepsOf : List Line → List Step
+stepsOf [] = []
+stepsOf (step ↝ answer ∷ run) = step ∷ stepsOf run
+stepsOf (Own p b ∷ run) = stepsOf run
+stepsOf (OnDrive d p b ∷ run) = stepsOf run
+
+abbrev pub historyOf : Example → List Event
+historyOf e = history (newRoom (e .sizes)) (stepsOf (e .run))
+
+abbrev pub lastRoom : Example → List ℕ
+lastRoom e = ran (newRoom (e .sizes)) (stepsOf (e .run))
+
+-- the numbers beside the answers with one word, in order
+unfoldable pub said : ℕ → List Event → List ℕ
+said word [] = []
+said word (e ∷ h) = cond (eqb (codeOf (e .answer)) word) (numberOf (e .answer) ∷ said word h) (said word h)
+
+-- the words chosen and committed
+abbrev pub chosenCode : ℕ
+chosenCode = 2
+
+abbrev pub committedCode : ℕ
+committedCode = 3
+
+-- 64 cells lent to a catalogue; every old cell is 9, as in the row that was opened
+abbrev pub lent : List ℕ
+lent = replicate pieces 9
+
+-- server p's catalogue at the end, as computed
+pub record Lists (e : Example) (p : ℕ) : Type 0 where
+  pub answer : catalogueOf cabinetLimits (lastRoom e) p lent ≡ Counted (getD (e .taken) p 0) 0
+  pub cells : catalogueCells cabinetLimits (lastRoom e) p lent ≡ getD (e .left) p []
+
+-- as demand 3 has it: the result of the first commands of the run
+abbrev pub IsFirst : Example → ℕ → Type 0
+IsFirst e p = getD (e .left) p [] ≡ folded start (take (getD (e .taken) p 0) (e .commands)) .cells
+
+pub record Holds (e : Example) : Type 0 where
+  pub answers : Follows (newRoom (e .sizes)) (e .run)
+  -- demand 3 for these very steps
+  pub one : OneHistory (e .sizes) (newRoom (e .sizes)) (stepsOf (e .run))
+  pub chosen : said chosenCode (historyOf e) ≡ e .chosen
+  pub committed : said committedCode (historyOf e) ≡ e .committed
+  pub commands : commandsOf (e .sizes) (historyOf e) ≡ e .commands
+  pub catalogues : (p : ℕ) → p < e .sizes .servers → Lists e p × IsFirst e p

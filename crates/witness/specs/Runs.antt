@@ -1,0 +1,95 @@
+-- Three runs of two servers: a command that survives its server, two rivals, and a slot beyond an empty one.
+use Prim.Native.Nat.{ℕ}
+use mathlib.Core.List.{List, [], _∷_, _++_}
+use lib.ListN.{set, replicate}
+use Rattle.state.specs.declared.Answer.the-variants.{Done, Outbid, Chosen, Committed}
+use Rattle.state.specs.declared.Step.the-variants.{Offer, Recall, Rejoin, Write, Read, Finish, Fail}
+use Rattle.catalogue.specs.Fold.{pieces}
+use Rattle.starred.specs.Runs.{sizes, Line, _↝_}
+use Rattle.witness.specs.Example.{Example}
+
+-- enter piece 5 in hoard 9; enter piece 7 in hoard 3; move piece 5 to hoard 12
+abbrev pub enter5 : ℕ
+enter5 = 66825
+
+abbrev pub enter7 : ℕ
+enter7 = 67331
+
+abbrev pub move5 : ℕ
+move5 = 132364
+
+-- the cells of a catalogue with one piece
+abbrev pub only : ℕ → ℕ → List ℕ
+only piece hoard = set (replicate pieces 0) piece hoard
+
+-- in a room of one drive server p goes from phase 0 to 3 in slot s, undisturbed by q, and commits v
+abbrev pub settles : ℕ → ℕ → ℕ → ℕ → ℕ → List Line
+settles p q s ballot v =
+    Recall p s 0 ↝ Done
+    ∷ Rejoin p s ballot ↝ Done
+    ∷ Write p s 0 ↝ Done
+    ∷ Read p s 0 q ↝ Done
+    ∷ Finish p s ↝ Chosen v
+    ∷ Write p s 0 ↝ Done
+    ∷ Read p s 0 q ↝ Done
+    ∷ Finish p s ↝ Committed v
+    ∷ []
+
+-- Server 0 commits its offer and fails. Server 1, with another offer, commits the same command, and then its own in
+-- slot 1. Server 0 comes back and commits, with no offer, the command that it had lost.
+unfoldable pub survivor : Example
+survivor =
+    record {
+      sizes = sizes 2 1 2;
+      run =
+          (Offer 0 0 enter5 ↝ Done ∷ settles 0 1 0 1 enter5)
+          ++ (Fail 0 ↝ Done ∷ Offer 1 0 enter7 ↝ Done ∷ settles 1 0 0 2 enter5)
+          ++ (Offer 1 1 move5 ↝ Done ∷ settles 1 0 1 2 move5)
+          ++ settles 0 1 0 3 enter5;
+      chosen = enter5 ∷ enter5 ∷ move5 ∷ enter5 ∷ [];
+      committed = enter5 ∷ enter5 ∷ move5 ∷ enter5 ∷ [];
+      commands = enter5 ∷ move5 ∷ [];
+      taken = 1 ∷ 2 ∷ [];
+      left = only 5 9 ∷ only 5 12 ∷ [];
+    }
+
+-- in a room of two drives and one slot server p joins with an offer and a ballot
+abbrev pub joins : ℕ → ℕ → ℕ → List Line
+joins p v ballot = Offer p 0 v ↝ Done ∷ Recall p 0 0 ↝ Done ∷ Recall p 0 1 ↝ Done ∷ Rejoin p 0 ballot ↝ Done ∷ []
+
+-- it writes both drives and reads q's block on both
+abbrev pub round : ℕ → ℕ → List Line
+round p q = Write p 0 0 ↝ Done ∷ Write p 0 1 ↝ Done ∷ Read p 0 0 q ↝ Done ∷ Read p 0 1 q ↝ Done ∷ []
+
+-- Server 0 chooses its offer and has not written it when server 1, with a larger ballot, chooses another command and
+-- commits it. Server 0 then writes its own, is outbid, finds the other and commits that.
+unfoldable pub rivals : Example
+rivals =
+    record {
+      sizes = sizes 2 2 1;
+      run =
+          (joins 0 enter5 1 ++ round 0 1 ++ (Finish 0 0 ↝ Chosen enter5 ∷ []))
+          ++ (joins 1 enter7 2 ++ round 1 0 ++ (Finish 1 0 ↝ Chosen enter7 ∷ []))
+          ++ (round 1 0 ++ (Finish 1 0 ↝ Committed enter7 ∷ []))
+          ++ (Write 0 0 0 ↝ Done ∷ Write 0 0 1 ↝ Done ∷ Read 0 0 0 1 ↝ Outbid 2 ∷ [])
+          ++ (round 0 1 ++ (Finish 0 0 ↝ Chosen enter7 ∷ []))
+          ++ (round 0 1 ++ (Finish 0 0 ↝ Committed enter7 ∷ []));
+      chosen = enter5 ∷ enter7 ∷ enter7 ∷ [];
+      committed = enter7 ∷ enter7 ∷ [];
+      commands = enter7 ∷ [];
+      taken = 1 ∷ 1 ∷ [];
+      left = only 7 3 ∷ only 7 3 ∷ [];
+    }
+
+-- Server 0 commits in slot 1 and nothing is settled in slot 0: the run has no commands, and no catalogue takes any.
+unfoldable pub gap : Example
+gap =
+    record {
+      sizes = sizes 2 1 2;
+      run = Offer 0 1 enter5 ↝ Done ∷ settles 0 1 1 1 enter5;
+      chosen = enter5 ∷ [];
+      committed = enter5 ∷ [];
+      commands = [];
+      taken = 0 ∷ 0 ∷ [];
+      left = replicate pieces 0 ∷ replicate pieces 0 ∷ [];
+    }
