@@ -1,13 +1,12 @@
 -- Laws of ballots: a ballot has one owner, and the next own ballot is the owner's, above the one found, and the least.
 use Prim.Native.Nat.{ℕ, zero, suc, _+_, _-_, _%_, _<_, _≤_}
-use mathlib.Core.Path.{_≡_, refl, _∙_, sym}
-use mathlib.Core.Bool.{Bool, true, false, _&&_}
+use mathlib.Core.Path.{_≡_, _∙_, sym}
+use mathlib.Core.Bool.{true, _&&_}
 use native.Mathlib.Omega.{arith}
 use lib.Dec.{eqb, leb, ltb}
-use borrow.Author.Tests.{eqb-true, leb-true, leb-false, ltb-true, lt-ltb, le-leb, eq-eqb}
+use borrow.Author.Tests.{eqb-true, leb-true, ltb-true, lt-ltb, le-leb, eq-eqb}
 use Rattle.lemmas.proofs.Tests.{by-test, and-left, and-right, and-intro}
-use Rattle.ballot.specs.Ballot.{limit, isBallot, owned, leastAbove, askable, pickNext, nextOwn}
-use Rattle.ballot.specs.declared.Next.{Next}
+use Rattle.ballot.specs.Ballot.{limit, isBallot, owned, leastAbove, askable, nextOwn}
 use Rattle.ballot.specs.declared.Next.the-variants.{Ballot, Spent}
 
 -- what owning a ballot says

@@ -1,7 +1,7 @@
 -- What an answer says: the counts and the cells of an accepted call, and that a refusal gives the lowest number that
 -- applies and leaves every cell.
 use Prim.Native.Nat.{ℕ, _≤_, _<_}
-use mathlib.Core.Path.{_≡_, refl, _∙_, sym, ap, subst}
+use mathlib.Core.Path.{_≡_, refl, _∙_, sym, subst}
 use mathlib.Core.Bool.{true, false, true≢false}
 use mathlib.Core.List.{List}
 use native.Mathlib.Omega.{arith}

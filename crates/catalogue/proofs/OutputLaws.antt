@@ -5,12 +5,11 @@ use mathlib.Core.Path.{_≡_, refl, _∙_, sym, ap, ap₂, subst}
 use mathlib.Core.Bool.{Bool, true, false, _&&_}
 use mathlib.Core.List.{List, [], _∷_}
 use native.Mathlib.Omega.{arith}
-use native.Mathlib.Nat.{add-zero, zero-add, le-refl}
+use native.Mathlib.Nat.{add-zero, zero-add}
 use native.Mathlib.Numerals.{add-one}
-use lib.ListN.{length, getD, take, List·getD-eq-default}
-use lib.Seq.{length-take-le, getD-take, ext-getD}
+use lib.ListN.{length, getD, take}
 use lib.Dec.{eqb, leb}
-use borrow.Author.Tests.{eq-eqb, ne-eqb, eqb-true, eqb-false, leb-true, leb-false}
+use borrow.Author.Tests.{eq-eqb, ne-eqb, eqb-true, eqb-false, leb-true}
 use Rattle.lemmas.proofs.Tests.{by-test, and-left, and-right}
 use Rattle.command.specs.Command.{kindOf, pieceOf, hoardOf, hoardFits, isCommand}
 use Rattle.state.specs.declared.Server.{Server}

@@ -1,15 +1,15 @@
 -- Laws of commands: how one quotient tells the kind and a small piece at once, and that zero is no command.
-use Prim.Native.Nat.{ℕ, _+_, _*_, _/_, _%_, _<_, _≤_}
-use mathlib.Core.Path.{_≡_, refl, _∙_, sym, ap, ap₂}
-use mathlib.Core.Bool.{Bool, true, false, _&&_, _||_, or-false, true≢false}
+use Prim.Native.Nat.{ℕ, _/_, _%_, _≤_}
+use mathlib.Core.Path.{_≡_, refl, _∙_, sym, ap}
+use mathlib.Core.Bool.{true, false, _&&_, _||_, or-false, true≢false}
 use mathlib.Core.Logic.{_⊎_, ⊎-elim}
 use mathlib.Core.List.{List}
 use native.Mathlib.Omega.{arith}
 use lib.ListN.{getD}
 use lib.Dec.{eqb, leb}
-use borrow.Author.Tests.{eq-eqb, ne-eqb, le-leb, leb-true}
+use borrow.Author.Tests.{ne-eqb, le-leb, leb-true}
 use Rattle.lemmas.proofs.Tests.{by-test}
-use Rattle.command.specs.Command.{kindOf, pieceOf, hoardOf, limitOf, hoardFits, isCommand}
+use Rattle.command.specs.Command.{kindOf, pieceOf, limitOf, hoardFits, isCommand}
 
 -- a command of kind 1 or 2
 pub enters-or-moves

@@ -1,7 +1,7 @@
 -- The answer of a step on the cells is that of the ruling at the slot that it concerns; at any other slot it makes no
 -- move, and a refusal makes none anywhere.
-use Prim.Native.Nat.{ℕ, _<_}
-use mathlib.Core.Path.{_≡_, refl, _∙_, sym, ap, subst}
+use Prim.Native.Nat.{ℕ}
+use mathlib.Core.Path.{_≡_, refl, _∙_, sym, ap}
 use mathlib.Core.Bool.{Bool, true, false, _&&_, true≢false}
 use mathlib.Core.List.{List}
 use lib.Dec.{eqb}
@@ -21,7 +21,7 @@ use Rattle.synod.proofs.Rulings.{write-cases}
 use Rattle.layout.specs.Cells.{offOf, serverOf}
 use Rattle.room.specs.Judge.{recording, blocking, ruled, answerOf}
 use Rattle.step_laws.specs.Slots.{seen, concerns}
-use Rattle.history.specs.Run.{Move, Offers, Chooses, Fails, Rests, pickMove, accepted, committed, moveOf}
+use Rattle.history.specs.Run.{Move, Offers, Chooses, Rests, pickMove, accepted, committed, moveOf}
 use Rattle.history.proofs.StepMoves.{answerBy}
 
 pub refused-rests : (t : ℕ) (st : Step) (n : ℕ) → moveOf t st (answer.Refused n) ≡ Rests

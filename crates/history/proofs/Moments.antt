@@ -1,7 +1,7 @@
 -- A moment of a run: the cells are a room in range, and each slot is seen as one that its past explains. A step leads from
 -- a moment to the next, and every slot's machine makes the move that is read off the step and its answer.
-use Prim.Native.Nat.{ℕ, _<_, _≤_}
-use mathlib.Core.Path.{_≡_, refl, _∙_, sym, ap, subst}
+use Prim.Native.Nat.{ℕ, _<_}
+use mathlib.Core.Path.{_≡_, _∙_, sym, ap, subst}
 use mathlib.Core.Bool.{Bool, true, false}
 use mathlib.Core.List.{List}
 use Rattle.lemmas.proofs.Tests.{by-test}
@@ -12,25 +12,23 @@ use Rattle.state.specs.declared.Step.{Step}
 use Rattle.synod.specs.declared.Ruling.{Ruling}
 use Rattle.synod.specs.Arguments.{placesFit, commandFits}
 use Rattle.synod.specs.Slot as slot
-use Rattle.synod.specs.Slot.{Slot, Config, Fits, configOf, Ghost, after, noted}
+use Rattle.synod.specs.Slot.{Slot, Fits, configOf, Ghost, after, noted}
 use Rattle.synod.proofs.Alike.{Alike, alike-then, ruled-alike, after-alike}
 use Rattle.synod.proofs.Invariant.{Invariant}
 use Rattle.synod.proofs.Kept.{kept}
 use Rattle.layout.specs.Places.{Fit}
-use Rattle.layout.specs.Cells.{sizesOf, offOf}
-use Rattle.range.specs.Range.{inRange}
-use Rattle.range.proofs.Laws.{says-range}
+use Rattle.layout.specs.Cells.{offOf}
 use Rattle.room.specs.declared.effect.Effect.{Effect}
 use Rattle.room.specs.declared.effect.Effect.the-variants as effect
 use Rattle.room.specs.Judge.{limitsOf, ruled, judged, answerOf}
 use Rattle.room.specs.Step.{settled, answered, stepped}
 use Rattle.room.proofs.Checks.{by-checks}
-use Rattle.step_laws.specs.Slots.{seen, concerns, pickSlot, afterAt}
+use Rattle.step_laws.specs.Slots.{seen, concerns, afterAt}
 use Rattle.step_laws.proofs.StoresKeep.{Whole}
 use Rattle.step_laws.proofs.StepKeeps.{ruled-kept}
 use Rattle.step_laws.proofs.SlotTie.{slot-tie}
-use Rattle.history.specs.Run.{Rests, moveOf, outputIn}
-use Rattle.history.proofs.SlotMoves.{Moves, rests}
+use Rattle.history.specs.Run.{Rests, moveOf}
+use Rattle.history.proofs.SlotMoves.{rests}
 use Rattle.history.proofs.StepMoves.{answerBy, MovesBy, concerned}
 use Rattle.history.proofs.Answers.{refused-rests, unconcerned, answer-tie}
 

@@ -1,21 +1,19 @@
 -- A room just opened is a moment: every record is that of a failed server, every block is blank, and nothing has happened.
-use Prim.Native.Nat.{ℕ, zero, suc, _+_, _-_, _*_, _<_, _≤_}
+use Prim.Native.Nat.{ℕ, suc, _+_, _-_, _*_, _<_, _≤_}
 use mathlib.Core.Path.{_≡_, refl, _∙_, sym, ap}
-use mathlib.Core.Bool.{true}
-use mathlib.Core.List.{List, [], _∷_}
+use mathlib.Core.List.{List}
 use native.Mathlib.Omega.{arith}
 use native.Mathlib.Decide.{decLt}
 use lib.ListN.{length, getD, replicate, length-replicate, getD-replicate, List·getD-eq-default}
 use Rattle.quorum.specs.Sets.{within}
 use Rattle.quorum.proofs.MaskLaws.{within-zero}
-use Rattle.state.specs.declared.Block.{Block}
 use Rattle.state.specs.declared.Server.{Server}
 use Rattle.state.specs.declared.Sizes.{Sizes}
 use Rattle.state.specs.Server.{failed, blank}
-use Rattle.synod.specs.Slot.{Slot, configOf, Ghost, noGhost, blankSlot}
+use Rattle.synod.specs.Slot.{configOf, noGhost, blankSlot}
 use Rattle.synod.proofs.Invariant.{begins}
 use Rattle.layout.specs.Places.{base, roomLength, serverAt, nthBlockAt, blockAt, Fit}
-use Rattle.layout.specs.Cells.{sizesOf, offOf, serverIn, serverOf, blockIn, blockOf}
+use Rattle.layout.specs.Cells.{serverIn, serverOf, blockIn, blockOf}
 use Rattle.layout.proofs.PlaceLaws.{base-room, base-server, base-nth}
 use Rattle.range.specs.Range.{legalDrives, masksOf, serverFits, blockFits}
 use Rattle.range.proofs.RecordLaws.{BlockIn, says-server, says-block, zero-fits}

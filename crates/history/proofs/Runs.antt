@@ -1,24 +1,24 @@
 -- A whole list of steps from a moment: one path of machine states for each slot, every command offered before it is
 -- output, and at every moment every output equal to the first one of the whole run.
 use Prim.Native.Nat.{ℕ, _<_}
-use mathlib.Core.Path.{_≡_, refl, _∙_, sym, ap, subst}
+use mathlib.Core.Path.{_≡_, _∙_, sym, ap, subst}
 use mathlib.Core.Bool.{true}
-use mathlib.Core.List.{List, [], _∷_, List·Memᴰ}
+use mathlib.Core.List.{List, [], _∷_}
 use Rattle.state.specs.declared.Sizes.{Sizes}
 use Rattle.state.specs.declared.Step.{Step}
 use Rattle.state.specs.Server.{offerOf, outputOf}
-use Rattle.synod.specs.Slot.{Slot, configOf, Ghost, Tried}
-use Rattle.synod.proofs.Agreement.{agree, valid, output-committed}
+use Rattle.synod.specs.Slot.{Slot, Ghost}
+use Rattle.synod.proofs.Agreement.{agree, output-committed}
 use Rattle.layout.specs.Cells.{sizesOf, serverOf}
 use Rattle.range.specs.Range.{inRange}
 use Rattle.range.proofs.Laws.{says-range}
 use Rattle.room.specs.Judge.{limitsOf}
 use Rattle.room.specs.Step.{answered, stepped}
-use Rattle.history.specs.Run.{Event, history, Always, orElse, outputBy, firstOutput, Move, Offers, Chooses, Fails, Rests, moveOf, WhenChooses, OfferedEarlier, AllCommit}
+use Rattle.history.specs.Run.{history, Always, orElse, outputBy, firstOutput, Move, Offers, Chooses, Fails, Rests, moveOf, WhenChooses, OfferedEarlier, AllCommit}
 use Rattle.history.specs.Machine.{Equal, Follows, ends, goes}
 use Rattle.history.proofs.Firsts.{or-some, or-assoc, firstCommand, first-of}
 use Rattle.history.proofs.SlotMoves.{machineOf}
-use Rattle.history.proofs.Moments.{Moment, Next, next}
+use Rattle.history.proofs.Moments.{Moment, next}
 
 module _ (z : Sizes) where
   equal-at

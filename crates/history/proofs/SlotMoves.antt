@@ -1,21 +1,19 @@
 -- One step at a slot that it concerns: the machine made of the slot's records and of its past makes the move that the
 -- step and its answer tell.
-use Prim.Native.Nat.{ℕ, _<_}
+use Prim.Native.Nat.{ℕ}
 use mathlib.Core.Path.{_≡_, refl, _∙_, sym, ap}
-use mathlib.Core.Bool.{Bool, true, false, _&&_}
-use mathlib.Core.List.{List, [], _∷_, List·Memᴰ, List·Memᴰ·head, List·Memᴰ·tail}
-use lib.Dec.{eqb}
+use mathlib.Core.Bool.{true, _&&_}
+use mathlib.Core.List.{_∷_, List·Memᴰ, List·Memᴰ·head}
 use Rattle.state.specs.declared.Answer.{Answer}
 use Rattle.state.specs.declared.Answer.the-variants as answer
-use Rattle.state.specs.Answers.{codeOf, numberOf}
 use Rattle.synod.specs.Slot.{Slot, Config, Ghost, Tried, updated, heard, withCommit}
 use Rattle.synod.proofs.Agreement.{agree, valid}
 use Rattle.synod.proofs.Ghosts.{tried}
 use Rattle.synod.proofs.Invariant.{Invariant}
 use Rattle.synod.proofs.Outputs.{outputs, offers, told}
-use Rattle.history.specs.Run.{Move, Offers, Chooses, Fails, Rests, pickMove, committed, outputIn, orElse, given, WhenChooses}
-use Rattle.history.specs.Machine.{Machine, withOutput, Choose, Makes}
-use Rattle.history.proofs.Firsts.{or-none, or-some, by-zero, or-zero, firstCommand, first-of}
+use Rattle.history.specs.Run.{Move, Chooses, Rests, pickMove, committed, outputIn, orElse, given, WhenChooses}
+use Rattle.history.specs.Machine.{Machine, Makes}
+use Rattle.history.proofs.Firsts.{or-some, or-zero, firstCommand, first-of}
 
 -- the machine that a slot and its past stand for
 abbrev pub machineOf : Ghost → Slot → Machine

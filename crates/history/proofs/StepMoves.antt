@@ -1,9 +1,8 @@
 -- Every kind of step, at a slot that it concerns, makes the move that 01 reads off the step and its answer.
-use Prim.Native.Nat.{ℕ, _<_}
+use Prim.Native.Nat.{ℕ}
 use mathlib.Core.Path.{_≡_, refl, _∙_, sym, ap}
-use mathlib.Core.Bool.{Bool, true, false, _&&_, true≢false}
-use mathlib.Core.List.{List, [], _∷_}
-use native.Mathlib.Omega.{arith}
+use mathlib.Core.Bool.{true, _&&_, true≢false}
+use mathlib.Core.List.{_∷_}
 use lib.Dec.{eqb}
 use Rattle.state.specs.declared.Answer.{Answer}
 use Rattle.state.specs.declared.Answer.the-variants as answer
@@ -11,20 +10,19 @@ use Rattle.state.specs.declared.Server.{Server}
 use Rattle.state.specs.declared.Sizes.{Sizes}
 use Rattle.state.specs.declared.Step.{Step}
 use Rattle.state.specs.declared.Step.the-variants.{Offer, Recall, Rejoin, Bid, Write, Read, Finish, Fail, DriveOff, DriveOn}
-use Rattle.state.specs.Answers.{codeOf, numberOf}
+use Rattle.state.specs.Answers.{numberOf}
 use Rattle.synod.specs.declared.Ruling.{Ruling}
 use Rattle.synod.specs.declared.Ruling.the-variants.{Refused, Accepted}
 use Rattle.synod.specs.Arguments.{placesFit}
 use Rattle.synod.specs.Rules.{offerRule}
-use Rattle.synod.specs.Slot.{Slot, Config, Fits, configOf, Ghost, updated, ruled, after, heard, noted, withOffer}
+use Rattle.synod.specs.Slot.{Slot, Config, Fits, configOf, Ghost, ruled, after, heard, noted}
 use Rattle.synod.proofs.Invariant.{Invariant}
 use Rattle.synod.proofs.Kept.{kept}
-use Rattle.synod.proofs.Outputs.{outputs, offers, told, outputsAfter, offersAfter, outputs-told, offers-told, CommittedBy, committed-by}
+use Rattle.synod.proofs.Outputs.{outputs, offers, told, outputsAfter, offersAfter, outputs-told, offers-told, committed-by}
 use Rattle.step_laws.specs.Slots.{concerns}
-use Rattle.history.specs.Run.{Move, Offers, Chooses, Fails, Rests, pickMove, accepted, committed, moveOf, outputIn, given}
-use Rattle.history.specs.Machine.{Makes}
+use Rattle.history.specs.Run.{Offers, Chooses, Fails, Rests, pickMove, committed, moveOf, outputIn, given}
 use Rattle.history.proofs.Firsts.{or-zero, firstCommand}
-use Rattle.history.proofs.SlotMoves.{machineOf, Moves, rests, listens}
+use Rattle.history.proofs.SlotMoves.{Moves, rests, listens}
 
 -- the answer that goes with a ruling
 abbrev pub answerBy : Ruling → Answer

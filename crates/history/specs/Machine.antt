@@ -9,7 +9,7 @@ use Rattle.state.specs.Server.{offerOf, outputOf}
 use Rattle.synod.specs.Slot.{updated}
 use Rattle.layout.specs.Cells.{serverOf}
 use Rattle.room.specs.Step.{answered, stepped}
-use Rattle.history.specs.Run.{Event, Move, Offers, Chooses, Fails, Rests, moveOf}
+use Rattle.history.specs.Run.{Move, Offers, Chooses, Fails, Rests, moveOf}
 
 -- "offer and output for each server, given (a set), chosen"
 pub record Machine : Type 0 where

@@ -1,7 +1,7 @@
 -- Places are within the room's length, and two different places are disjoint.
 use Prim.Native.Nat.{ℕ, _+_, _*_, _<_, _≤_}
-use mathlib.Core.Path.{_≡_, refl, _∙_, sym, ap}
-use mathlib.Core.Bool.{Bool, true, false, _&&_}
+use mathlib.Core.Path.{_≡_, ap}
+use mathlib.Core.Bool.{true, _&&_}
 use mathlib.Core.Logic.{_⊎_, inl, inr}
 use native.Mathlib.Omega.{arith}
 use native.Mathlib.Decide.{decLt}
@@ -9,7 +9,7 @@ use native.Mathlib.Nat.{mul-le-mul-right, mul-le-mul}
 use lib.Arith.{digits-lt}
 use lib.Dec.{leb}
 use borrow.Author.Tests.{leb-true, le-leb}
-use Rattle.lemmas.proofs.Tests.{and-left, and-right, and-intro}
+use Rattle.lemmas.proofs.Tests.{and-left, and-right}
 use Rattle.state.specs.declared.Sizes.{Sizes}
 use Rattle.layout.specs.Places.{base, recordLength, blockLength, slotLength, roomLength, slotAt, serverAt, nthBlockAt, blockAt, sizesFit, Fit}
 

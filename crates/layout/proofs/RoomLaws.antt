@@ -1,9 +1,9 @@
 -- What is read of a room after a record, a block or the off marks are stored: at the same place, and at any other slot,
 -- server and drive.
 use Prim.Native.Nat.{ℕ, _+_, _*_, _<_, _≤_, _/_, _%_}
-use mathlib.Core.Path.{_≡_, refl, _∙_, sym, ap}
+use mathlib.Core.Path.{_≡_, _∙_, sym, ap}
 use mathlib.Core.List.{List}
-use mathlib.Core.Logic.{_⊎_, inl, inr}
+use mathlib.Core.Logic.{inl, inr}
 use native.Mathlib.Omega.{arith}
 use lib.Arith.{digits-div, digits-mod}
 use lib.ListN.{length, getD, set, length-set}
@@ -11,8 +11,8 @@ use lib.Seq.{getD-set-other}
 use Rattle.state.specs.declared.Block.{Block}
 use Rattle.state.specs.declared.Server.{Server}
 use Rattle.state.specs.declared.Sizes.{Sizes}
-use Rattle.layout.specs.Places.{base, recordLength, blockLength, slotLength, roomLength, serverAt, nthBlockAt, blockAt, Fit, Row}
-use Rattle.layout.specs.Cells.{put, sizesOf, offOf, offAt, serverIn, serverCells, blockIn, blockCells, serverOf, putServer, blockOf, putBlock}
+use Rattle.layout.specs.Places.{base, recordLength, blockLength, serverAt, nthBlockAt, blockAt, Row}
+use Rattle.layout.specs.Cells.{put, sizesOf, offOf, offAt, serverCells, blockIn, blockCells, serverOf, putServer, blockOf, putBlock}
 use Rattle.layout.proofs.PlaceLaws.{Apart, server-within, block-within, nth-of, servers-apart, nths-apart, server-nth-apart, base-server, base-nth}
 use Rattle.layout.proofs.CellLaws.{Same, put-length, put-outside, server-same, block-same, apart-same, put-server, put-block}
 

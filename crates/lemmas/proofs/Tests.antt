@@ -1,6 +1,6 @@
 -- Bool tests taken apart: by cases that keep the equation, and by the parts of an `&&`.
-use mathlib.Core.Path.{_≡_, refl, _∙_, sym}
-use mathlib.Core.Bool.{Bool, true, false, not, _&&_, _||_, true≢false}
+use mathlib.Core.Path.{_≡_, refl, sym}
+use mathlib.Core.Bool.{Bool, true, false, _&&_, _||_, true≢false}
 
 -- goes by the value of b and keeps the equation
 pub by-test {ℓ} : {X : Type ℓ} (b : Bool) → (b ≡ true → X) → (b ≡ false → X) → X

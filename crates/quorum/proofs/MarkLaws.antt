@@ -1,12 +1,12 @@
 -- Laws of a mark cell: what stands after a mark is set or removed, and how large the cell is then.
-use Prim.Native.Nat.{ℕ, zero, suc, _+_, _-_, _*_, _/_, _%_, _^_, _<_, _≤_, max}
+use Prim.Native.Nat.{ℕ, suc, _+_, _-_, _*_, _/_, _%_, _^_, _<_, _≤_, max}
 use mathlib.Core.Path.{_≡_, refl, _∙_, sym, ap}
 use mathlib.Core.Bool.{Bool, true, false, not, _&&_, true≢false}
 use native.Mathlib.Omega.{arith}
 use native.Mathlib.Decide.{decLt}
 use native.Mathlib.Nat.{add-div-right, add-mul-div-right, div-eq-of-lt, pow-suc, mod-lt, div-add-mod'}
 use lib.Dec.{eqb, ltb}
-use lib.Pow.{pow-pos, pow-add, pow-mono, shr-shr}
+use lib.Pow.{pow-pos, pow-add, shr-shr}
 use lib.Bits.{bitOr, or-block, or-step, or-zero-r, or-lt}
 use borrow.Author.Tests.{eq-eqb, ne-eqb, eqb-true, eqb-false, lt-ltb, le-ltb}
 use Rattle.quorum.specs.Marks.{stands, marked, unmarked, pick}

@@ -1,7 +1,7 @@
 -- Why one `or` judges a whole cell: a cell is told by its bits, and a bit of an `or` stands where it stands in either.
 use Prim.Native.Nat.{ℕ, zero, suc, _+_, _*_, _/_, _%_, _^_, _<_, max}
 use mathlib.Core.Path.{_≡_, refl, _∙_, sym, ap, ap₂}
-use mathlib.Core.Bool.{Bool, true, false, not, _&&_, _||_, true≢false}
+use mathlib.Core.Bool.{Bool, true, false, not, _||_, true≢false}
 use native.Mathlib.Omega.{arith}
 use native.Mathlib.Decide.{ℕ-discrete}
 use native.Mathlib.Nat.{mod-eq-of-lt, mod-one}
@@ -11,7 +11,7 @@ use lib.Bits.{bitOr, or-shr, or-step, or-lt}
 use borrow.Author.Tests.{eq-eqb, eqb-true}
 use Rattle.lemmas.proofs.Tests.{by-test, same-test}
 use Rattle.quorum.specs.Marks.{stands, marked, unmarked}
-use Rattle.quorum.specs.Sets.{allBelow, within}
+use Rattle.quorum.specs.Sets.{within}
 use Rattle.quorum.proofs.MarkLaws.{digit-of, no-digit, of-digit, of-no-digit, stands-zero, stands-marked-other, stands-unmarked-same, stands-unmarked-other}
 use Rattle.quorum.proofs.SetLaws.{all-at, all-intro}
 

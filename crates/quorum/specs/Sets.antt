@@ -1,6 +1,6 @@
 -- Sets of drives, their size, and majority (01, "The room in memory").
 use Prim.Native.Nat.{ℕ, zero, suc, _+_, _*_, _^_}
-use mathlib.Core.Bool.{Bool, true, false, not, _&&_, _||_}
+use mathlib.Core.Bool.{Bool, true, not, _&&_, _||_}
 use lib.Dec.{ltb}
 use Rattle.quorum.specs.Marks.{stands, pick}
 

@@ -1,16 +1,16 @@
 -- Laws of the range rule: the order of its tests, and what it says of each record and block.
 use Prim.Native.Nat.{ℕ, _+_, _*_, _<_, _≤_}
-use mathlib.Core.Path.{_≡_, refl, _∙_, sym, ap}
+use mathlib.Core.Path.{_≡_, _∙_, sym, ap}
 use mathlib.Core.Bool.{Bool, true, false, _&&_, and-false}
 use mathlib.Core.List.{List}
 use lib.ListN.{length}
 use lib.Dec.{eqb, leb}
-use borrow.Author.Tests.{le-leb, lt-leb, leb-true, eqb-true, eq-eqb}
+use borrow.Author.Tests.{le-leb, lt-leb, eqb-true, eq-eqb}
 use Rattle.lemmas.proofs.Tests.{and-left, and-right, and-intro, goes-on}
 use Rattle.quorum.specs.Sets.{allBelow, within}
 use Rattle.quorum.proofs.SetLaws.{all-at, all-intro}
 use Rattle.state.specs.declared.Sizes.{Sizes}
-use Rattle.layout.specs.Places.{base, sizesFit, roomLength, nthBlockAt, blockAt, Fit, Row}
+use Rattle.layout.specs.Places.{base, sizesFit, roomLength, nthBlockAt, blockAt, Row}
 use Rattle.layout.specs.Cells.{sizesOf, offOf, serverOf, blockOf, blockIn}
 use Rattle.layout.proofs.PlaceLaws.{fit-of, of-fit, nth-of, base-room}
 use Rattle.range.specs.Range.{legalDrives, masksOf, serverFits, blockFits, serversFit, blocksFit, slotFits, cellsFit, inRange}

@@ -1,11 +1,10 @@
 -- The masks that the code computes are the cells of legal marks: one computed test over all sizes of a room.
-use Prim.Native.Nat.{ℕ, _+_, _-_, _*_, _/_, _%_, _^_, _<_, _≤_}
+use Prim.Native.Nat.{ℕ, _-_, _*_, _/_, _%_, _^_, _<_}
 use mathlib.Core.Path.{_≡_, refl}
 use mathlib.Core.Bool.{Bool, true, _&&_}
 use native.Mathlib.Omega.{arith}
 use lib.Dec.{eqb, ltb}
 use borrow.Author.Tests.{eqb-true, ltb-true}
-use Rattle.quorum.specs.Marks.{pick}
 use Rattle.quorum.specs.Sets.{allBelow, gathered}
 use Rattle.quorum.proofs.SetLaws.{all-at}
 use Rattle.state.specs.declared.Sizes.{Sizes}

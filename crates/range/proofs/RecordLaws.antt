@@ -1,7 +1,7 @@
 -- What the range rule says of one record and of one block, number by number, and which marks are legal.
 use Prim.Native.Nat.{ℕ, _+_, _*_, _/_, _%_, _<_, _≤_}
-use mathlib.Core.Path.{_≡_, refl, _∙_, sym, ap}
-use mathlib.Core.Bool.{Bool, true, _&&_, _||_}
+use mathlib.Core.Path.{_≡_, refl, _∙_, ap}
+use mathlib.Core.Bool.{true, _&&_}
 use mathlib.Core.List.{List}
 use native.Mathlib.Omega.{arith}
 use lib.Dec.{eqb, leb, ltb}
@@ -10,7 +10,7 @@ use Rattle.lemmas.proofs.Tests.{and-left, and-right, and-intro, or-right}
 use Rattle.ballot.specs.Ballot.{limit}
 use Rattle.command.specs.Command.{isCommand}
 use Rattle.quorum.specs.Marks.{stands}
-use Rattle.quorum.specs.Sets.{gathered, within}
+use Rattle.quorum.specs.Sets.{within}
 use Rattle.quorum.proofs.SetLaws.{stands-gathered}
 use Rattle.state.specs.declared.Block.{Block}
 use Rattle.state.specs.declared.Server.{Server}

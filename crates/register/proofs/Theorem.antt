@@ -1,35 +1,30 @@
 -- Demand 3: from a room just opened, for all sizes that fit, every old content of the row and every list of steps.
-use Prim.Native.Nat.{ℕ, _+_, _<_, _≤_, min}
+use Prim.Native.Nat.{ℕ, _<_}
 use mathlib.Core.Path.{_≡_, refl, _∙_, sym, ap, subst}
-use mathlib.Core.Bool.{true, false}
 use mathlib.Core.List.{List, [], _∷_}
 use native.Mathlib.Omega.{arith}
 use lib.ListN.{length, take, length-take}
-use lib.Dec.{eqb}
 use Rattle.lemmas.proofs.Tests.{by-test}
 use Rattle.command.specs.Command.{cabinetLimits}
 use Rattle.state.specs.declared.Sizes.{Sizes}
 use Rattle.state.specs.declared.Step.{Step}
-use Rattle.state.specs.Server.{outputOf}
 use Rattle.synod.specs.Slot.{noGhost, blankSlot}
 use Rattle.layout.specs.Places.{sizesFit, Fit}
-use Rattle.layout.specs.Cells.{sizesOf, serverOf}
 use Rattle.layout.proofs.PlaceLaws.{fit-of}
-use Rattle.room.specs.declared.opening.Opening.{Opening}
-use Rattle.room.specs.declared.opening.Opening.the-variants.{Opened, Refused}
+use Rattle.room.specs.declared.opening.Opening.the-variants.{Opened}
 use Rattle.room.specs.Open.{opening, openedBy, opened, openedCells}
 use Rattle.room.specs.Step.{stepped}
 use Rattle.room.proofs.OpenLaws.{opens-1}
-use Rattle.history.specs.Run.{history, Always, orElse, firstOutput}
+use Rattle.history.specs.Run.{history, Always, firstOutput}
 use Rattle.history.proofs.Opened.{opens}
 use Rattle.history.proofs.Runs.{follows, offered-earlier, all-commit, Shown, shown}
-use Rattle.catalogue.specs.Fold.{pieces, folded, start}
+use Rattle.catalogue.specs.Fold.{folded, start}
 use Rattle.catalogue.specs.Outputs.{outputAt, leading, outputsOf}
-use Rattle.catalogue.specs.Call.{entriesOf, counted, catalogueOf, catalogueCells}
+use Rattle.catalogue.specs.Call.{entriesOf, counted}
 use Rattle.catalogue.specs.declared.Listing.the-variants.{Counted}
 use Rattle.catalogue.proofs.OutputLaws.{leading-prefix}
 use Rattle.catalogue.proofs.CallLaws.{accepts}
-use Rattle.register.specs.OneHistory.{commandsOf, Shows, AllShow, OneHistory}
+use Rattle.register.specs.OneHistory.{commandsOf, AllShow, OneHistory}
 
 -- what an accepted open says
 opened-fit : (z : Sizes) (row : List ℕ) → opening z row ≡ Opened → Fit z

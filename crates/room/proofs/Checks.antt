@@ -1,7 +1,7 @@
 -- The checks that come before a kind's own rule, in their order.
 use Prim.Native.Nat.{ℕ}
-use mathlib.Core.Path.{_≡_, refl, _∙_, sym, ap}
-use mathlib.Core.Bool.{Bool, true, false, true≢false}
+use mathlib.Core.Path.{_≡_}
+use mathlib.Core.Bool.{true, false}
 use mathlib.Core.List.{List}
 use Rattle.lemmas.proofs.Tests.{by-test}
 use Rattle.state.specs.declared.Step.{Step}

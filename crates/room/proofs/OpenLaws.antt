@@ -1,8 +1,8 @@
 -- Laws of open: its two refusals in their order, and the room that it makes.
-use Prim.Native.Nat.{ℕ, suc, _+_, _-_, _<_, _≤_}
-use mathlib.Core.Path.{_≡_, refl, _∙_, sym, ap}
+use Prim.Native.Nat.{ℕ, suc, _-_, _≤_}
+use mathlib.Core.Path.{_≡_, _∙_, sym, ap}
 use mathlib.Core.Bool.{true, false}
-use mathlib.Core.List.{List, [], _∷_}
+use mathlib.Core.List.{List, _∷_}
 use native.Mathlib.Omega.{arith}
 use lib.ListN.{length, set, replicate}
 use lib.Dec.{eqb}

@@ -14,8 +14,8 @@ use Rattle.layout.specs.Places.{Row}
 use Rattle.layout.specs.Cells.{sizesOf, offOf, serverOf, blockOf}
 use Rattle.range.proofs.Laws.{range-says}
 use Rattle.room.specs.Judge.{limitsOf, recording, blocking, ruled, judged}
-use Rattle.room.specs.Ready.{InSlot, ReadyAt, Ready}
-use Rattle.synod.proofs.Places.{AtServer, AtDrive, AtOther, placed}
+use Rattle.room.specs.Ready.{ReadyAt, Ready}
+use Rattle.synod.proofs.Places.{placed}
 use Rattle.room.proofs.Checks.{by-checks}
 
 record-ready : (z : Sizes) (r : List ℕ) (s p : ℕ) (x : Ruling) → Row z r → s < z .slots → p < z .servers → ReadyAt z r (recording s p x)

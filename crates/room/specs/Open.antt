@@ -1,7 +1,7 @@
 -- Open (01, "The room in memory", "Who can bring which number"): 1 sizes, 2 length; old cells are not heeded.
 use Prim.Native.Nat.{ℕ, _-_}
-use mathlib.Core.Bool.{Bool, true, false, not}
-use mathlib.Core.List.{List, [], _∷_, _++_}
+use mathlib.Core.Bool.{Bool, true, false}
+use mathlib.Core.List.{List, _∷_}
 use lib.ListN.{length, replicate}
 use lib.Dec.{eqb}
 use Rattle.state.specs.declared.Sizes.{Sizes}

@@ -1,16 +1,15 @@
 -- A step leaves every slot that it does not concern as it was: only Fail concerns more than the slot it names.
 use Prim.Native.Nat.{ℕ, _<_}
-use mathlib.Core.Path.{_≡_, refl, _∙_, sym, ap, subst}
-use mathlib.Core.Bool.{Bool, true, false}
+use mathlib.Core.Path.{_≡_}
+use mathlib.Core.Bool.{false}
 use mathlib.Core.List.{List}
-use Rattle.state.specs.declared.Sizes.{Sizes}
 use Rattle.state.specs.declared.Step.{Step}
 use Rattle.synod.specs.Slot.{configOf}
 use Rattle.synod.proofs.Alike.{Alike, alike-same}
-use Rattle.layout.specs.Cells.{sizesOf, offOf}
+use Rattle.layout.specs.Cells.{sizesOf}
 use Rattle.range.proofs.Laws.{range-says}
 use Rattle.room.specs.declared.effect.Effect.{Effect}
-use Rattle.room.specs.Judge.{limitsOf, ruled, judged}
+use Rattle.room.specs.Judge.{limitsOf}
 use Rattle.room.specs.Step.{settled, stepped}
 use Rattle.room.proofs.Checks.{by-checks}
 use Rattle.step_laws.specs.Slots.{seen, concerns, afterAt}

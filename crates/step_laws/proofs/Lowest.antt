@@ -2,16 +2,15 @@
 -- accepted.
 use Prim.Native.Nat.{ℕ, _<_, _≤_}
 use mathlib.Core.Path.{_≡_, refl, _∙_, sym, ap}
-use mathlib.Core.Bool.{Bool, true, false, not, _&&_, _||_, Bool·not-not, true≢false}
-use mathlib.Core.List.{List, [], _∷_, List·Memᴰ, List·Memᴰ·head, List·Memᴰ·tail, List·Memᴰ·cases-cons, List·Memᴰ·not-nil}
+use mathlib.Core.Bool.{Bool, true, false, not, _&&_, Bool·not-not}
+use mathlib.Core.List.{List, [], _∷_, List·Memᴰ, List·Memᴰ·cases-cons, List·Memᴰ·not-nil}
 use mathlib.Core.Logic.{_⊎_, inl, inr}
 use native.Mathlib.Omega.{arith}
-use lib.Dec.{eqb, ltb}
+use lib.Dec.{ltb}
 use borrow.Author.Tests.{ltb-true}
 use Rattle.lemmas.proofs.Tests.{by-test, and-left, and-right}
 use Rattle.ballot.specs.declared.Next.{Next}
 use Rattle.ballot.specs.declared.Next.the-variants.{Ballot, Spent}
-use Rattle.state.specs.declared.Answer.{Answer}
 use Rattle.state.specs.declared.Answer.the-variants as answer
 use Rattle.state.specs.declared.Server.{Server}
 use Rattle.state.specs.declared.Sizes.{Sizes}
@@ -20,12 +19,12 @@ use Rattle.state.specs.declared.Step.the-variants.{Offer, Recall, Rejoin, Bid, 
 use Rattle.state.specs.Server.{pickNumber}
 use Rattle.synod.specs.declared.Ruling.{Ruling}
 use Rattle.synod.specs.declared.Ruling.the-variants as ruling
-use Rattle.synod.specs.Rules.{must, pickRuling, outbidRule, commandOf, offerRule, recallRule, rejoinRule, bidRule, writeRule, readRule, finishRule}
+use Rattle.synod.specs.Rules.{must, pickRuling, outbidRule, offerRule, recallRule, rejoinRule, bidRule, writeRule, readRule, finishRule}
 use Rattle.synod.proofs.Rulings.{recall-cases, rejoin-cases, bid-cases, write-cases, read-cases, finish-cases}
 use Rattle.layout.specs.Cells.{sizesOf, serverOf}
 use Rattle.room.specs.declared.effect.Effect.{Effect}
 use Rattle.room.specs.declared.effect.Effect.the-variants as effect
-use Rattle.room.specs.Judge.{limitsOf, recording, blocking, ruled, judged, answerOf}
+use Rattle.room.specs.Judge.{recording, blocking, ruled, answerOf}
 use Rattle.room.specs.Step.{settled, answered, stepped}
 use Rattle.room.proofs.Checks.{by-checks}
 use Rattle.step_laws.specs.Refusals.{isSpent, Refusal, laterRefusals, refusals, lowest, refusalOf}

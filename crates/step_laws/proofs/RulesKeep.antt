@@ -1,26 +1,25 @@
 -- Each rule, on a record and a block in range, leaves the record in range.
-use Prim.Native.Nat.{ℕ, _+_, _*_, _<_, _≤_, max}
-use mathlib.Core.Path.{_≡_, refl}
+use Prim.Native.Nat.{ℕ, _<_, _≤_}
+use mathlib.Core.Path.{_≡_}
 use mathlib.Core.Bool.{Bool, true, false}
 use mathlib.Core.List.{List}
 use native.Mathlib.Omega.{arith}
 use lib.Dec.{eqb, ltb}
-use Rattle.ballot.specs.Ballot.{limit, owned}
+use Rattle.ballot.specs.Ballot.{limit}
 use Rattle.ballot.proofs.Laws.{owned-within}
 use Rattle.command.specs.Command.{isCommand}
-use Rattle.quorum.specs.Sets.{within}
 use Rattle.quorum.proofs.MaskLaws.{within-zero, within-marked}
 use Rattle.state.specs.declared.Block.{Block}
 use Rattle.state.specs.declared.Server.{Server}
 use Rattle.state.specs.declared.Sizes.{Sizes}
-use Rattle.state.specs.Server.{cleared, failed, ownBlock, pickNumber}
+use Rattle.state.specs.Server.{failed, ownBlock, pickNumber}
 use Rattle.synod.specs.declared.Ruling.{Ruling}
 use Rattle.synod.specs.declared.Ruling.the-variants.{Refused, Accepted}
 use Rattle.synod.specs.Changes.{readBit, offering, meeting, marking, topping, recalling, rejoining, bidding, writing, reading, proposing, committing}
 use Rattle.synod.specs.Rules.{commandOf, offerRule, recallRule, rejoinRule, bidRule, writeRule, readRule, finishRule}
 use Rattle.synod.proofs.Rulings.{recall-cases, rejoin-cases, bid-cases, write-cases, read-cases, finish-cases}
 use Rattle.layout.specs.Places.{Fit}
-use Rattle.range.specs.Range.{masksOf, valueFits, serverFits}
+use Rattle.range.specs.Range.{masksOf, valueFits}
 use Rattle.range.proofs.RecordLaws.{ServerIn, BlockIn, zero-fits, command-fits, drive-legal, read-legal}
 
 -- what a ruling makes of a record is in range

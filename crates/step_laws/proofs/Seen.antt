@@ -1,18 +1,16 @@
 -- What a slot looks like after a record, a block, a failure or off marks are stored.
 use Prim.Native.Nat.{ℕ, zero, suc, _<_, _≤_}
 use mathlib.Core.Path.{_≡_, refl, _∙_, sym, ap}
-use mathlib.Core.Bool.{Bool, true}
 use mathlib.Core.List.{List}
 use native.Mathlib.Omega.{arith}
-use native.Mathlib.Decide.{ℕ-discrete, decLt}
+use native.Mathlib.Decide.{ℕ-discrete}
 use lib.ListN.{set}
-use Rattle.state.specs.declared.Block.{Block}
 use Rattle.state.specs.declared.Server.{Server}
 use Rattle.state.specs.declared.Sizes.{Sizes}
 use Rattle.state.specs.Server.{failed, ownBlock}
-use Rattle.synod.specs.Slot.{Node, Slot, configOf, updated, withRecord, withBlock}
+use Rattle.synod.specs.Slot.{configOf, updated, withRecord, withBlock}
 use Rattle.synod.proofs.Alike.{Same, Alike}
-use Rattle.synod.proofs.Update.{updated-at, updated-off, everywhere}
+use Rattle.synod.proofs.Update.{everywhere}
 use Rattle.layout.specs.Places.{Row}
 use Rattle.layout.specs.Cells.{offAt, serverOf, blockOf, putServer, putBlock}
 use Rattle.layout.proofs.RoomLaws.{server-row, server-after-server, other-server-after-server, block-after-server, block-after-block, other-block-after-block, server-after-block, server-after-off, block-after-off}

@@ -1,17 +1,15 @@
 -- Each step's definition over the cells, seen slot by slot, is the step of the machine of one slot; a slot that the step
 -- does not concern is as it was.
-use Prim.Native.Nat.{ℕ, _<_, _≤_}
-use mathlib.Core.Path.{_≡_, refl, _∙_, sym, ap, subst}
-use mathlib.Core.Bool.{Bool, true, false}
+use Prim.Native.Nat.{ℕ, _<_}
+use mathlib.Core.Path.{_≡_, refl, subst}
+use mathlib.Core.Bool.{true, false}
 use mathlib.Core.List.{List}
 use lib.Dec.{eqb}
 use borrow.Author.Tests.{eqb-true, eqb-false}
 use Rattle.lemmas.proofs.Tests.{by-test}
-use Rattle.state.specs.declared.Server.{Server}
 use Rattle.state.specs.declared.Sizes.{Sizes}
 use Rattle.state.specs.declared.Step.{Step}
 use Rattle.state.specs.declared.Step.the-variants.{Offer, Recall, Rejoin, Bid, Write, Read, Finish, Fail, DriveOff, DriveOn}
-use Rattle.state.specs.Server.{failed, ownBlock}
 use Rattle.synod.specs.declared.Ruling.{Ruling}
 use Rattle.synod.specs.declared.Ruling.the-variants as ruling
 use Rattle.synod.specs.Arguments.{placesFit}
@@ -21,12 +19,12 @@ use Rattle.synod.specs.Slot.{Slot, configOf, updated, withRecord, withBlock, af
 use Rattle.synod.proofs.Alike.{Alike, alike-same}
 use Rattle.quorum.specs.Marks.{marked, unmarked}
 use Rattle.layout.specs.Places.{Row}
-use Rattle.layout.specs.Cells.{offOf, serverOf, blockOf, putServer, putBlock}
+use Rattle.layout.specs.Cells.{offOf, serverOf, blockOf}
 use Rattle.room.specs.declared.effect.Effect.the-variants as effect
 use Rattle.room.specs.Judge.{recording, blocking, ruled}
 use Rattle.room.specs.Step.{settled}
 use Rattle.synod.proofs.Places.{placed}
-use Rattle.step_laws.specs.Slots.{seen, concerns, pickSlot, afterAt}
+use Rattle.step_laws.specs.Slots.{seen, concerns, afterAt}
 use Rattle.step_laws.proofs.Seen.{record-here, record-elsewhere, block-here, block-elsewhere, off-elsewhere, fail-everywhere}
 
 -- a slot after a ruling on the record of server p, as every kind but Write has it

@@ -1,14 +1,12 @@
 -- An accepted step on a room in range leaves it in range and of the same length; so does a refused one, which leaves it.
-use Prim.Native.Nat.{ℕ, _<_, _≤_}
-use mathlib.Core.Path.{_≡_, refl, _∙_, sym, ap, subst}
-use mathlib.Core.Bool.{true, false}
+use Prim.Native.Nat.{ℕ, _<_}
+use mathlib.Core.Path.{_≡_, refl, _∙_, sym}
+use mathlib.Core.Bool.{true}
 use mathlib.Core.List.{List}
 use native.Mathlib.Omega.{arith}
 use lib.ListN.{length}
 use Rattle.quorum.specs.Marks.{marked, unmarked}
-use Rattle.quorum.specs.Sets.{within}
 use Rattle.quorum.proofs.MaskLaws.{within-marked, within-unmarked}
-use Rattle.state.specs.declared.Server.{Server}
 use Rattle.state.specs.declared.Sizes.{Sizes}
 use Rattle.state.specs.declared.Step.{Step}
 use Rattle.state.specs.declared.Step.the-variants.{Offer, Recall, Rejoin, Bid, Write, Read, Finish, Fail, DriveOff, DriveOn}
@@ -19,11 +17,11 @@ use Rattle.synod.specs.Arguments.{placesFit, commandFits}
 use Rattle.synod.specs.Rules.{offerRule, recallRule, rejoinRule, bidRule, writeRule, readRule, finishRule}
 use Rattle.layout.specs.Cells.{sizesOf, offOf, serverOf, blockOf, putServer}
 use Rattle.range.specs.Range.{legalDrives, masksOf, inRange}
-use Rattle.range.proofs.Laws.{InRange, block-fits, range-says, says-range}
+use Rattle.range.proofs.Laws.{block-fits, range-says, says-range}
 use Rattle.range.proofs.RecordLaws.{ServerIn, BlockIn, server-says, block-says, drive-legal}
 use Rattle.room.specs.declared.effect.Effect.{Effect}
 use Rattle.room.specs.declared.effect.Effect.the-variants as effect
-use Rattle.room.specs.Judge.{limitsOf, recording, blocking, ruled, judged}
+use Rattle.room.specs.Judge.{limitsOf, recording, blocking, ruled}
 use Rattle.room.specs.Step.{settled, stepped}
 use Rattle.synod.proofs.Places.{placed}
 use Rattle.room.proofs.Checks.{by-checks}

@@ -1,19 +1,19 @@
 -- Storing a record, a block or off marks that are in range leaves a room in range, and its sizes as they were.
 use Prim.Native.Nat.{ℕ, zero, suc, _+_, _*_, _<_, _≤_}
-use mathlib.Core.Path.{_≡_, refl, _∙_, sym, ap, subst⁻¹}
-use mathlib.Core.Bool.{Bool, true}
+use mathlib.Core.Path.{_≡_, _∙_, sym, ap}
+use mathlib.Core.Bool.{true}
 use mathlib.Core.List.{List}
 use native.Mathlib.Omega.{arith}
 use native.Mathlib.Decide.{ℕ-discrete}
-use lib.ListN.{getD, set}
+use lib.ListN.{set}
 use lib.Seq.{getD-set-same}
 use Rattle.quorum.specs.Sets.{within}
 use Rattle.state.specs.declared.Block.{Block}
 use Rattle.state.specs.declared.Server.{Server}
 use Rattle.state.specs.declared.Sizes.{Sizes}
 use Rattle.state.specs.Server.{failed}
-use Rattle.layout.specs.Places.{nthBlockAt, blockAt, Row}
-use Rattle.layout.specs.Cells.{sizesOf, offOf, offAt, serverOf, blockOf, blockIn, putServer, putBlock}
+use Rattle.layout.specs.Places.{nthBlockAt, blockAt}
+use Rattle.layout.specs.Cells.{sizesOf, offAt, serverOf, blockOf, blockIn, putServer, putBlock}
 use Rattle.layout.proofs.PlaceLaws.{base-room}
 use Rattle.layout.proofs.RoomLaws.{server-row, server-sizes, server-off, server-after-server, other-server-after-server, nth-after-server, block-row, block-sizes, block-off, block-after-block, other-nth-after-block, server-after-block, off-row, off-sizes, server-after-off, nth-after-off}
 use Rattle.range.specs.Range.{legalDrives, masksOf, serverFits, blockFits}

@@ -1,7 +1,7 @@
 -- Who can bring which number (01): when each refusal of a step applies, by its number. A condition that a kind does not
 -- have never applies to it. The lowest number that applies is given.
 use Prim.Native.Nat.{ℕ}
-use mathlib.Core.Bool.{Bool, true, false, not, _&&_, _||_}
+use mathlib.Core.Bool.{Bool, true, false, not, _&&_}
 use mathlib.Core.List.{List, [], _∷_}
 use lib.Dec.{eqb, ltb}
 use Rattle.ballot.specs.Ballot.{owned, nextOwn}

@@ -1,7 +1,7 @@
 -- A step whose places fit names servers, slots and drives of the room: what refusal 4 leaves.
 use Prim.Native.Nat.{ℕ, _<_}
 use mathlib.Core.Path.{_≡_}
-use mathlib.Core.Bool.{Bool, true, not, _&&_}
+use mathlib.Core.Bool.{true, not, _&&_}
 use lib.Dec.{eqb, ltb}
 use borrow.Author.Tests.{ltb-true, eqb-false, not-true}
 use Rattle.lemmas.proofs.Tests.{and-left, and-right}

@@ -1,9 +1,7 @@
 -- What an accepted step makes of a server's record (01, "The ten steps").
 use Prim.Native.Nat.{ℕ, _+_, _*_, max}
-use mathlib.Core.Bool.{Bool, true, false, _&&_, _||_}
-use lib.Dec.{eqb, ltb}
-use Rattle.quorum.specs.Marks.{stands, marked}
-use Rattle.quorum.specs.Sets.{allBelow}
+use lib.Dec.{ltb}
+use Rattle.quorum.specs.Marks.{marked}
 use Rattle.state.specs.declared.Block.{Block}
 use Rattle.state.specs.declared.Server.{Server}
 use Rattle.state.specs.Server.{cleared, pickNumber}

@@ -1,6 +1,6 @@
 -- One rule for each kind of step that touches a record: its conditions in 01's order, then its effect. The record is
 -- taken as it stands, reached by a run or not.
-use Prim.Native.Nat.{ℕ, _+_, _*_}
+use Prim.Native.Nat.{ℕ}
 use mathlib.Core.Bool.{Bool, true, false, not, _&&_, _||_}
 use lib.Dec.{eqb, ltb}
 use Rattle.ballot.specs.Ballot.{owned, nextOwn}
@@ -10,7 +10,6 @@ use Rattle.quorum.specs.Marks.{stands}
 use Rattle.quorum.specs.Sets.{allBelow, majority}
 use Rattle.state.specs.declared.Block.{Block}
 use Rattle.state.specs.declared.Server.{Server}
-use Rattle.state.specs.declared.Answer.{Answer}
 use Rattle.state.specs.declared.Answer.the-variants.{Done, Outbid, Chosen, Committed}
 use Rattle.state.specs.Server.{pickNumber}
 use Rattle.synod.specs.declared.Ruling.{Ruling}

@@ -1,7 +1,7 @@
 -- `ballot::next_own` meets its contract: it computes the formula of `leastAbove`, whose parts are small.
 use native.Mathlib.Omega.{arith}
 use native.Mathlib.Nat.{mod-lt}
-use mathlib.Core.Path.{_≡_, refl, _∙_, sym}
+use mathlib.Core.Path.{_≡_}
 use mathlib.Core.Bool.{true, _&&_}
 use Prim.Native.Nat.{ℕ, _<_, _≤_, _+_, _-_, _%_}
 use lib.Dec.{leb, ltb}

@@ -8,7 +8,6 @@ use Rattle.layout.proofs.block_at.Reads as block-at-reads
 use Rattle.layout.proofs.block_in.Reads as block-in-reads
 use native.Mathlib.Omega.{arith}
 use mathlib.Core.Path.{_∙_, ap}
-use Prim.Native.Nat.{ℕ}
 use Rattle.layout.specs.Cells.{blockOf, blockIn}
 use Rattle.layout.proofs.PlaceLaws.{block-within}
 

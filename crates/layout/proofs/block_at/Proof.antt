@@ -6,7 +6,7 @@ use Rattle.layout.proofs.block_at.Reads as reads
 use Rattle.layout.proofs.block_at.Lts as lts
 use Rattle.layout.proofs.slot_length.Reads as slot-length-reads
 use native.Mathlib.Omega.{arith}
-use mathlib.Core.Path.{refl, ap}
+use mathlib.Core.Path.{ap}
 use Prim.Native.Nat.{ℕ, _+_, _*_}
 use Rattle.layout.specs.Places.{blockAt, nthBlockAt, slotAt}
 use Rattle.layout.proofs.PlaceLaws.{slots-small, blocks-bound, nth-of}

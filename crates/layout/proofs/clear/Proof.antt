@@ -5,8 +5,8 @@ use Rattle.layout.proofs.clear.Tie as tie
 use Rattle.layout.proofs.clear.Reads as reads
 use Rattle.layout.proofs.clear.Lts as lts
 use native.Mathlib.Omega.{arith}
-use Prim.Native.Nat.{ℕ, _+_, _-_, _≤_}
-use mathlib.Core.Path.{_≡_, refl, _∙_, sym, ap}
+use Prim.Native.Nat.{ℕ, _-_, _≤_}
+use mathlib.Core.Path.{_≡_, refl, _∙_, ap}
 use mathlib.Core.List.{List, _++_, append-nil}
 use lib.ListN.{length, set, drop, replicate, length-set}
 use lib.Seq.{drop-length}

@@ -8,7 +8,6 @@ use Rattle.layout.proofs.server_at.Reads as server-at-reads
 use Rattle.layout.proofs.server_in.Reads as server-in-reads
 use native.Mathlib.Omega.{arith}
 use mathlib.Core.Path.{_∙_, ap}
-use Prim.Native.Nat.{ℕ}
 use Rattle.layout.specs.Cells.{serverOf, serverIn}
 use Rattle.layout.proofs.PlaceLaws.{server-within}
 

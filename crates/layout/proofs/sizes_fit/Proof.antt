@@ -1,5 +1,4 @@
 -- `layout::sizes_fit` meets its contract.
-use borrow.Author.Needs.{needs}
 use Rattle.layout.proofs.sizes_fit.Statement.{statement}
 use Rattle.layout.proofs.sizes_fit.Tie as tie
 use Rattle.layout.proofs.sizes_fit.Reads as reads

@@ -1,8 +1,6 @@
 -- `quorum::has_mark` meets its contract: below 32 it is the definition; a 32-bit cell has no bit above.
 use borrow.Author.Needs.{needs}
-use native.Mathlib.Omega.{arith}
-use mathlib.Core.Path.{_≡_, refl, sym}
-use Prim.Native.Nat.{_<_, _≤_, _^_}
+use mathlib.Core.Path.{refl, sym}
 use native.Mathlib.Nat.{lt-of-lt-of-le}
 use lib.Pow.{pow-mono}
 use Rattle.quorum.specs.Marks.{stands}

@@ -8,8 +8,7 @@ use native.Mathlib.Nat.{lt-of-lt-of-le, mod-eq-of-lt}
 use lib.Count.{ones, ones-le}
 use lib.Dec.{ltb}
 use lib.Pow.{pow-mono, pow-pos}
-use Rattle.quorum.specs.Marks.{stands}
-use Rattle.quorum.specs.Sets.{size, majority}
+use Rattle.quorum.specs.Sets.{majority}
 use Rattle.quorum.proofs.SetLaws.{ones-size}
 use Rattle.quorum.proofs.Shift.{one-shifted}
 use Rattle.quorum.proofs.is_majority.Statement.{statement}

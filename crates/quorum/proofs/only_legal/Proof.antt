@@ -1,5 +1,4 @@
 -- `quorum::only_legal` meets its contract: one `or` judges every bit.
-use borrow.Author.Needs.{needs}
 use Rattle.quorum.proofs.only_legal.Statement.{statement}
 use Rattle.quorum.proofs.only_legal.Tie as tie
 use Rattle.quorum.proofs.only_legal.Reads as reads

@@ -1,8 +1,7 @@
 -- `quorum::with_mark` meets its contract: an `or` with one bit sets that mark.
 use borrow.Author.Needs.{needs}
-use native.Mathlib.Omega.{arith}
-use mathlib.Core.Path.{_≡_, _∙_, sym, ap}
-use Prim.Native.Nat.{ℕ, _^_, _*_, _%_, _<_}
+use mathlib.Core.Path.{_∙_, sym, ap}
+use Prim.Native.Nat.{ℕ}
 use lib.Bits.{bitOr}
 use Rattle.quorum.proofs.MarkLaws.{or-marks, marked-out}
 use Rattle.quorum.proofs.Shift.{one-shifted}

@@ -4,7 +4,7 @@ use native.Mathlib.Omega.{arith}
 use native.Mathlib.Decide.{decLt}
 use mathlib.Core.Path.{_≡_, _∙_, sym, ap}
 use mathlib.Core.Bool.{true, true≢false}
-use Prim.Native.Nat.{ℕ, _^_, _*_, _%_, _-_, _<_, _≤_}
+use Prim.Native.Nat.{ℕ, _^_, _-_, _<_}
 use native.Mathlib.Nat.{lt-of-lt-of-le}
 use lib.Pow.{pow-mono}
 use Rattle.quorum.specs.Marks.{stands}

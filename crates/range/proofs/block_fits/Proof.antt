@@ -5,7 +5,7 @@ use Rattle.range.proofs.block_fits.Tie as tie
 use Rattle.range.proofs.block_fits.Reads as reads
 use Rattle.range.proofs.block_fits.Lts as lts
 use Rattle.range.proofs.value_fits.Reads as value-fits-reads
-use mathlib.Core.Path.{_∙_, sym}
+use mathlib.Core.Path.{sym}
 use mathlib.Core.Bool.{_&&_}
 use lib.Dec.{leb}
 use borrow.Author.Tests.{not-true, not-false}

@@ -10,8 +10,7 @@ use Rattle.layout.proofs.sizes_fit.Reads as sizes-fit-reads
 use Rattle.quorum.proofs.only_legal.Reads as only-legal-reads
 use Rattle.range.proofs.masks_of.Reads as masks-of-reads
 use Rattle.range.proofs.slots_fit.Reads as slots-fit-reads
-use native.Mathlib.Omega.{arith}
-use mathlib.Core.Path.{_≡_, _∙_, sym, ap}
+use mathlib.Core.Path.{_∙_, sym, ap}
 use borrow.Author.Tests.{not-true, not-false, eq-eqb, ne-eqb}
 use Prim.Native.Nat.{ℕ}
 use lib.Dec.{eqb}

@@ -5,9 +5,6 @@ use Rattle.range.proofs.numbers_fit.Tie as tie
 use Rattle.range.proofs.numbers_fit.Reads as reads
 use Rattle.range.proofs.numbers_fit.Lts as lts
 use Rattle.quorum.proofs.only_legal.Reads as only-legal-reads
-use mathlib.Core.Path.{ap₂}
-use mathlib.Core.Bool.{Bool, _&&_}
-use lib.Dec.{leb}
 use Rattle.range.specs.Range.{numbersFit}
 
 only-legal-requires : tie.Need-only-legal-requires

@@ -9,8 +9,8 @@ use Rattle.range.proofs.blocks_fit.Reads as blocks-fit-reads
 use Rattle.range.proofs.servers_fit.Reads as servers-fit-reads
 use native.Mathlib.Omega.{arith}
 use Prim.Native.Nat.{ℕ, _+_, _*_, _≤_, _-_}
-use mathlib.Core.Path.{_≡_, refl, _∙_, sym, ap, ap₂}
-use mathlib.Core.Bool.{Bool, true, false, _&&_}
+use mathlib.Core.Path.{_≡_, _∙_, sym, ap, ap₂}
+use mathlib.Core.Bool.{true, false}
 use mathlib.Core.List.{List}
 use borrow.Author.Tests.{not-true, not-false}
 use Rattle.lemmas.proofs.Tests.{and-intro, none-left, none-right}

@@ -1,5 +1,4 @@
 -- `rules::command_of` meets its contract: the test says which command is tried.
-use borrow.Author.Needs.{needs}
 use Rattle.rules.proofs.command_of.Statement.{statement}
 use Rattle.rules.proofs.command_of.Tie as tie
 use Rattle.rules.proofs.command_of.Reads as reads

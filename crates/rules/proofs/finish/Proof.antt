@@ -9,7 +9,7 @@ use Rattle.rules.proofs.command_of.Reads as command-of-reads
 use Rattle.rules.proofs.drives.complete.Reads as complete-reads
 use Rattle.rules.proofs.in_ballot.Reads as in-ballot-reads
 use Rattle.state.proofs.Server.cleared.Reads as cleared-reads
-use mathlib.Core.Path.{_≡_, _∙_, sym, ap}
+use mathlib.Core.Path.{_∙_, sym}
 use borrow.Author.Tests.{eq-eqb, ne-eqb, not-true, not-false}
 use Rattle.rules.proofs.Judged.{judged}
 use Rattle.synod.specs.Changes.{proposing, committing}

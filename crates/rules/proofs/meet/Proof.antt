@@ -1,5 +1,4 @@
 -- `rules::meet` meets its contract: the test says which numbers are kept.
-use borrow.Author.Needs.{needs}
 use Rattle.rules.proofs.meet.Statement.{statement}
 use Rattle.rules.proofs.meet.Tie as tie
 use Rattle.rules.proofs.meet.Reads as reads

@@ -1,5 +1,4 @@
 -- `rules::offer` meets its contract.
-use borrow.Author.Needs.{needs}
 use Rattle.rules.proofs.offer.Statement.{statement}
 use Rattle.rules.proofs.offer.Tie as tie
 use Rattle.rules.proofs.offer.Reads as reads

@@ -8,12 +8,8 @@ use Rattle.ballot.proofs.is_own.Reads as is-own-reads
 use Rattle.quorum.proofs.is_majority.Reads as is-majority-reads
 use Rattle.rules.proofs.drives.recalled.Reads as recalled-reads
 use Rattle.state.proofs.Server.cleared.Reads as cleared-reads
-use mathlib.Core.Path.{_≡_, _∙_, sym, ap}
-use mathlib.Core.Bool.{Bool}
-use Prim.Native.Nat.{ℕ}
+use mathlib.Core.Path.{_∙_, sym}
 use borrow.Author.Tests.{lt-ltb, le-ltb, eq-eqb, ne-eqb, not-true, not-false}
-use Rattle.quorum.specs.Marks.{stands}
-use Rattle.quorum.specs.Sets.{majority}
 use Rattle.rules.proofs.Judged.{judged}
 use Rattle.synod.specs.Changes.{rejoining}
 use Rattle.synod.specs.Rules.{must, recalledOn, rejoinRule}

@@ -11,8 +11,7 @@ use Rattle.room.proofs.effect.rule.Reads as rule-reads
 use Rattle.rules.proofs.arguments.command_fits.Reads as command-fits-reads
 use Rattle.rules.proofs.arguments.places_fit.Reads as places-fit-reads
 use native.Mathlib.Omega.{arith}
-use mathlib.Core.Path.{_≡_, _∙_, sym, ap, subst⁻¹}
-use mathlib.Core.Bool.{Bool}
+use mathlib.Core.Path.{_∙_, sym, ap, subst⁻¹}
 use mathlib.Core.List.{List}
 use Prim.Native.Nat.{ℕ}
 use borrow.Author.Tests.{not-true, not-false}

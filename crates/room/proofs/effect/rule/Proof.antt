@@ -18,7 +18,7 @@ use Rattle.rules.proofs.recall.Reads as recall-reads
 use Rattle.rules.proofs.rejoin.Reads as rejoin-reads
 use Rattle.rules.proofs.write.Reads as write-reads
 use native.Mathlib.Omega.{arith}
-use mathlib.Core.Path.{_∙_, sym, ap, subst}
+use mathlib.Core.Path.{subst}
 use Rattle.layout.proofs.PlaceLaws.{base-room}
 use Rattle.room.specs.Judge.{ruled}
 use Rattle.synod.proofs.Places.{Placed, placed}

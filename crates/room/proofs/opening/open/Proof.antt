@@ -8,10 +8,10 @@ use Rattle.layout.proofs.room_length.Reads as room-length-reads
 use Rattle.layout.proofs.sizes_fit.Reads as sizes-fit-reads
 use Rattle.layout.proofs.clear.Reads as clear-reads
 use native.Mathlib.Omega.{arith}
-use mathlib.Core.Path.{_≡_, _∙_, sym, ap}
+use mathlib.Core.Path.{_∙_, sym, ap}
 use Prim.Native.Nat.{ℕ}
 use lib.Dec.{eqb}
-use lib.ListN.{length, length-set, replicate, length-replicate}
+use lib.ListN.{length, length-set}
 use borrow.Author.Tests.{not-true, not-false, eq-eqb, ne-eqb}
 use Rattle.state.specs.declared.Sizes.{Sizes}
 use Rattle.layout.proofs.PlaceLaws.{fit-of, base-room}

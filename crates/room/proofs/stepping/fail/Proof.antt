@@ -9,11 +9,10 @@ use Rattle.layout.proofs.store_server.Reads as store-server-reads
 use Rattle.state.proofs.Server.failed.Reads as failed-reads
 use native.Mathlib.Omega.{arith}
 use native.Mathlib.Numerals.{add-one}
-use Prim.Native.Nat.{ℕ, _+_, _-_, _≤_}
+use Prim.Native.Nat.{ℕ, _-_, _≤_}
 use mathlib.Core.Path.{_≡_, refl, _∙_, sym, ap, subst}
 use mathlib.Core.List.{List}
 use Rattle.state.specs.Server.{failed}
-use Rattle.state.specs.declared.Server.{Server}
 use Rattle.layout.specs.Places.{Row}
 use Rattle.layout.specs.Cells.{putServer}
 use Rattle.layout.proofs.RoomLaws.{server-row}

@@ -11,11 +11,9 @@ use Rattle.room.proofs.stepping.fail.Reads as fail-reads
 use Rattle.state.proofs.Server.own_block.Reads as own-block-reads
 use native.Mathlib.Omega.{arith}
 use Prim.Native.Nat.{ℕ, _<_}
-use mathlib.Core.Path.{_≡_, _∙_, sym, ap, subst, subst⁻¹}
-use mathlib.Core.List.{List}
+use mathlib.Core.Path.{subst, subst⁻¹}
 use Rattle.state.specs.declared.Sizes.{Sizes}
 use Rattle.layout.specs.Places.{Row}
-use Rattle.layout.specs.Cells.{sizesOf}
 use Rattle.layout.proofs.PlaceLaws.{base-room}
 use Rattle.layout.proofs.RoomLaws.{server-row}
 use Rattle.room.specs.Ready.{Ready}

@@ -6,8 +6,6 @@ use Rattle.rules.proofs.arguments.places_fit.Reads as reads
 use Rattle.rules.proofs.arguments.places_fit.Lts as lts
 use Rattle.rules.proofs.arguments.in_room.Reads as in-room-reads
 use mathlib.Core.Path.{_∙_, sym, ap}
-use mathlib.Core.Bool.{Bool, _&&_, not}
-use lib.Dec.{ltb, eqb}
 use Rattle.synod.specs.Arguments.{placesFit}
 
 enum-known-step : tie.Need-enum-known-step

@@ -8,8 +8,8 @@ use Rattle.quorum.proofs.has_mark.Reads as has-mark-reads
 use Rattle.quorum.proofs.with_mark.Reads as with-mark-reads
 use Rattle.rules.proofs.drives.others_read.Reads as others-read-reads
 use native.Mathlib.Omega.{arith}
-use Prim.Native.Nat.{ℕ, _≤_, _<_, _-_}
-use mathlib.Core.Path.{_≡_, refl, _∙_, sym, ap, ap₂}
+use Prim.Native.Nat.{ℕ, _≤_, _-_}
+use mathlib.Core.Path.{_≡_, _∙_, sym, ap, ap₂}
 use mathlib.Core.Bool.{_&&_}
 use mathlib.Core.Logic.{⊎-elim}
 use Rattle.quorum.specs.Marks.{marked}

@@ -7,11 +7,10 @@ use Rattle.rules.proofs.drives.others_read.Lts as lts
 use Rattle.quorum.proofs.has_mark.Reads as has-mark-reads
 use native.Mathlib.Omega.{arith}
 use Prim.Native.Nat.{_≤_, _-_}
-use mathlib.Core.Path.{_≡_, refl, _∙_, sym, ap}
-use mathlib.Core.Bool.{Bool, true, false, not, _||_}
+use mathlib.Core.Path.{_≡_, _∙_, sym, ap}
+use mathlib.Core.Bool.{Bool, true, _||_}
 use lib.Dec.{eqb}
 use borrow.Author.Tests.{not-true, not-false}
-use Rattle.quorum.specs.Sets.{allBelow}
 use Rattle.quorum.proofs.SetLaws.{all-none, all-more, all-fails}
 use Rattle.synod.specs.Rules.{othersRead, otherRead}
 

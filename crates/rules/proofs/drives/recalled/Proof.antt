@@ -7,8 +7,8 @@ use Rattle.rules.proofs.drives.recalled.Lts as lts
 use Rattle.quorum.proofs.has_mark.Reads as has-mark-reads
 use Rattle.quorum.proofs.with_mark.Reads as with-mark-reads
 use native.Mathlib.Omega.{arith}
-use Prim.Native.Nat.{ℕ, _≤_, _<_, _-_}
-use mathlib.Core.Path.{_≡_, refl, _∙_, sym, ap}
+use Prim.Native.Nat.{ℕ, _≤_, _-_}
+use mathlib.Core.Path.{_≡_, _∙_, sym, ap}
 use mathlib.Core.Logic.{⊎-elim}
 use Rattle.quorum.specs.Marks.{marked}
 use Rattle.quorum.specs.Sets.{gathered}
