@@ -1,0 +1,3 @@
+-- Laws about the packing.
+pub mod Halves
+pub mod WriteLaws

@@ -1,0 +1,64 @@
+-- `server` meets its contract: the line is made of the two counts that the catalogue's answer has.
+use Prim.Native.Nat.{ℕ, _≤_}
+use mathlib.Core.Path.{_≡_, _∙_, ap, subst}
+use mathlib.Core.List.{List}
+use lib.ListN.{length}
+use Rattle.catalogue.specs.Listing.{takenOf}
+use Rattle.transcript.specs.Lines.{lineMax, serverLine}
+use Rattle.transcript.proofs.LineLaws.{server-max}
+use Rattle.rehearsal.specs.Rehearsal.{countsLine, lineOf}
+use Rattle.rehearsal.specs.Buffer.{Added}
+use Rattle.rehearsal.proofs.BufferLaws.{added}
+use borrow.Author.Needs.{needs}
+use Rattle.rehearsal.proofs.server.Statement.{statement}
+use Rattle.rehearsal.proofs.server.Tie as tie
+
+slice-aggregate-catalogue : tie.Need-slice-aggregate-catalogue
+slice-aggregate-catalogue c = search needs
+
+catalogue-requires : tie.Need-catalogue-requires
+catalogue-requires c κs = search needs
+
+taken-requires : tie.Need-taken-requires
+taken-requires c κs = search needs
+
+skipped-requires : tie.Need-skipped-requires
+skipped-requires c κs = search needs
+
+server-line-requires : tie.Need-server-line-requires
+server-line-requires c κs = search needs
+
+same-length : tie.Need-same-length
+same-length c = search needs
+
+returns : tie.Need-returns
+unfolding countsLine lineOf
+returns c =
+    let at-args = c .before .before .before .before .before .before .before .before .before .before .before .args in
+    let at-taken = c .before .before .before .before .taken in
+    let at-skipped = c .before .before .before .skipped in
+    let at-catalogue = c .before .before .before .before .before .before .before .catalogue in
+    let at-server-line = c .before .before .server-line in
+    let p = at-args .p in
+    let taken = at-taken .result in
+    let skipped = at-skipped .result in
+    let listing = at-catalogue .result in
+    let line : serverLine p taken skipped ≡ lineOf (at-args .room .now) p =
+    ap (λ (n : ℕ). serverLine p n skipped) (at-taken .ensures)
+    ∙ ap (λ (n : ℕ). serverLine p (takenOf listing) n) (at-skipped .ensures)
+    ∙ ap (countsLine p) (at-catalogue .ensures .0) in
+    let short : length (serverLine p taken skipped) ≤ lineMax = server-max p taken skipped (search needs) (search needs) (search needs) in
+    subst (λ (l : List ℕ). Added (at-args .out .now) (at-args .at) l (at-server-line .last .0) (at-server-line .result) lineMax) line
+    (added (at-server-line .ensures) (search needs) short)
+
+pub server-spec : {M : Type 1} → statement M
+server-spec =
+    tie.close
+    (tie.spec
+    slice-aggregate-catalogue
+    catalogue-requires
+    taken-requires
+    skipped-requires
+    server-line-requires
+    same-length
+    returns)

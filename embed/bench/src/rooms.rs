@@ -1,0 +1,89 @@
+//! The rooms and the steps that are timed.
+
+use other::generator::Chance;
+use other::{least_own_above, Sizes};
+
+/// A room and records of steps that all are accepted in it, in any order.
+pub struct Work {
+    pub room: Vec<u32>,
+    pub records: Vec<Vec<u8>>,
+}
+
+/// A room just opened. Each server recalls its block on each drive in each slot.
+pub fn empty(sizes: Sizes) -> Work {
+    let mut room = vec![0; sizes.length()];
+    let (servers, drives, slots) = (sizes.servers as u32, sizes.drives as u32, sizes.slots as u32);
+    other::open(&mut room, servers, drives, slots).expect("the sizes fit");
+    let steps =
+        places(sizes).map(|(server, slot, drive)| other::Step::Recall { server, slot, drive });
+    Work { room, records: steps.map(record).collect() }
+}
+
+/// A room with a command in every cell that can hold one and every server in
+/// phase 2. Each server writes its block to each drive in each slot.
+pub fn filled(sizes: Sizes) -> Work {
+    let mut room = empty(sizes).room;
+    let mut chance = Chance::new(1);
+    for slot in 0..sizes.slots {
+        for server in 0..sizes.servers {
+            let at = sizes.server_at(slot, server);
+            let ballot =
+                least_own_above(chance.below(900_000), server as u32, sizes.servers as u32);
+            let (ballot, command) = (ballot.unwrap_or(1), command(&mut chance));
+            room[at..at + 4].copy_from_slice(&[2, ballot, ballot, command]);
+            room[at + 4] = self::command(&mut chance);
+            room[at + 6] = ballot;
+            room[at + 7] = command;
+            for drive in 0..sizes.drives {
+                let at = sizes.block_at(slot, drive, server);
+                room[at..at + 3].copy_from_slice(&[ballot, ballot, command]);
+            }
+        }
+    }
+    let steps =
+        places(sizes).map(|(server, slot, drive)| other::Step::Write { server, slot, drive });
+    Work { room, records: steps.map(record).collect() }
+}
+
+/// A room with a settled command in every slot of every server.
+pub fn settled(sizes: Sizes) -> Vec<u32> {
+    let mut room = filled(sizes).room;
+    for slot in 0..sizes.slots {
+        for server in 0..sizes.servers {
+            room[sizes.server_at(slot, server)] = 3;
+        }
+    }
+    room
+}
+
+/// Every server, slot and drive, in an order from a seed.
+fn places(sizes: Sizes) -> impl Iterator<Item = (u8, u8, u8)> {
+    let mut all = Vec::new();
+    for slot in 0..sizes.slots as u8 {
+        for server in 0..sizes.servers as u8 {
+            all.extend((0..sizes.drives as u8).map(|drive| (server, slot, drive)));
+        }
+    }
+    let mut chance = Chance::new(2);
+    for last in (1..all.len()).rev() {
+        all.swap(last, chance.place(last + 1));
+    }
+    all.into_iter()
+}
+
+/// Any command.
+fn command(chance: &mut Chance) -> u32 {
+    let piece = chance.below(64) << 8;
+    match chance.from_to(1, 3) {
+        3 => 3 << 16 | piece,
+        kind => kind << 16 | piece | chance.from_to(1, 60),
+    }
+}
+
+/// The record of a step.
+pub fn record(step: other::Step) -> Vec<u8> {
+    let mut bytes = vec![0; other::LONGEST_RECORD];
+    let length = other::write_record(step, &mut bytes).expect("the buffer is long enough");
+    bytes.truncate(length);
+    bytes
+}

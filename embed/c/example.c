@@ -1,0 +1,93 @@
+/* Enters a coin on two servers and three drives, and prints the catalogue of each. */
+#include "register.h"
+
+#include <inttypes.h>
+#include <stdio.h>
+
+#define SERVERS 2
+#define DRIVES 3
+#define SLOTS 1
+
+/* The coin: piece 5 enters hoard 9. */
+#define COIN (1u << 16 | 5u << 8 | 9u)
+
+static uint32_t room[REGISTER_MOST_CELLS];
+static size_t cells;
+
+/* Writes a step's record, takes the step, and prints its answer. */
+static int step(uint8_t kind, uint8_t server, uint8_t drive, uint8_t other, uint32_t number)
+{
+    static const char *const kinds[] = {"no step", "offer",  "recall", "rejoin",    "bid",     "write",
+                                        "read",    "finish", "fail",   "drive off", "drive on"};
+    static const char *const words[] = {"done", "outbid", "chosen", "committed", "refused"};
+    uint8_t record[REGISTER_LONGEST_RECORD];
+    uint64_t length = register_write(kind, server, 0, drive, other, number, record, sizeof record);
+    if (REGISTER_WORD(length) == REGISTER_REFUSED) {
+        printf("no record: %" PRIu32 "\n", REGISTER_NUMBER(length));
+        return 1;
+    }
+    uint64_t answer = register_step(room, cells, record, REGISTER_NUMBER(length));
+    printf("%s, server %d, drive %d: %s %" PRIu32 "\n", kinds[kind], server, drive, words[REGISTER_WORD(answer)],
+           REGISTER_NUMBER(answer));
+    return REGISTER_WORD(answer) == REGISTER_REFUSED;
+}
+
+/* One phase: the server writes its block to two drives, a majority, reads the other
+ * server's there, and finishes. */
+static int phase(uint8_t server, uint8_t first)
+{
+    int bad = 0;
+    for (uint8_t drive = first; drive < first + 2; drive++) {
+        bad |= step(REGISTER_WRITE, server, drive, 0, 0);
+        bad |= step(REGISTER_READ, server, drive, 1 - server, 0);
+    }
+    return bad | step(REGISTER_FINISH, server, 0, 0, 0);
+}
+
+/* A server comes in with a ballot of its own and settles the slot on two drives. */
+static int settle(uint8_t server, uint32_t ballot, uint8_t first)
+{
+    int bad = 0;
+    for (uint8_t drive = first; drive < first + 2; drive++)
+        bad |= step(REGISTER_RECALL, server, drive, 0, 0);
+    bad |= step(REGISTER_REJOIN, server, 0, 0, ballot);
+    bad |= phase(server, first);
+    return bad | phase(server, first);
+}
+
+/* Prints the pieces that a server knows to be in a hoard. */
+static int catalogue(uint32_t server)
+{
+    uint32_t hoards[REGISTER_PIECES];
+    uint64_t answer = register_catalogue(room, cells, server, hoards, REGISTER_PIECES);
+    if (REGISTER_WORD(answer) == REGISTER_REFUSED) {
+        printf("catalogue refused %" PRIu32 "\n", REGISTER_NUMBER(answer));
+        return 1;
+    }
+    printf("catalogue of server %" PRIu32 ": taken %" PRIu32 ", skipped %" PRIu32 "\n", server,
+           REGISTER_NUMBER(answer) / 256, REGISTER_NUMBER(answer) % 256);
+    for (int piece = 0; piece < REGISTER_PIECES; piece++)
+        if (hoards[piece] != 0)
+            printf("  piece %d is in hoard %" PRIu32 "\n", piece, hoards[piece]);
+    return 0;
+}
+
+int main(void)
+{
+    cells = register_length(SERVERS, DRIVES, SLOTS);
+    uint32_t refusal = register_open(room, cells, SERVERS, DRIVES, SLOTS);
+    if (refusal != 0) {
+        printf("open refused %" PRIu32 "\n", refusal);
+        return 1;
+    }
+    printf("a room of %zu cells\n", cells);
+    /* Server 0 offers the coin and settles it on drives 0 and 1. Then drive 0 goes off:
+     * server 1 offers nothing, and settles the same command on drives 1 and 2. */
+    int bad = step(REGISTER_OFFER, 0, 0, 0, COIN);
+    bad |= settle(0, 1, 0);
+    bad |= step(REGISTER_DRIVE_OFF, 0, 0, 0, 0);
+    bad |= settle(1, 2, 1);
+    bad |= catalogue(0);
+    bad |= catalogue(1);
+    return bad;
+}

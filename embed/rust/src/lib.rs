@@ -1,0 +1,39 @@
+//! The hoard register: a safe binding of the library that `crates/register_c`
+//! proves.
+//!
+//! A [`Room`] is a row of cells. [`Room::step`] takes one [`Step`] in it and
+//! answers with an [`Answer`], [`Room::catalogue`] gives what one server knows of
+//! the pieces. Every call judges every cell first, so that a row from anywhere can
+//! be lent; a call that is refused with an [`Error`] changes nothing.
+//!
+//! ```
+//! use register::{Answer, Room, Step};
+//!
+//! # fn main() -> Result<(), register::Error> {
+//! // One server and one drive settle a slot: piece 5 enters hoard 9.
+//! let enter = 0x1_05_09;
+//! let mut room = Room::open(1, 1, 1)?;
+//! room.step(Step::Offer { server: 0, slot: 0, command: enter })?;
+//! room.step(Step::Recall { server: 0, slot: 0, drive: 0 })?;
+//! room.step(Step::Rejoin { server: 0, slot: 0, ballot: 1 })?;
+//! room.step(Step::Write { server: 0, slot: 0, drive: 0 })?;
+//! assert_eq!(room.step(Step::Finish { server: 0, slot: 0 })?, Answer::Chosen(enter));
+//! room.step(Step::Write { server: 0, slot: 0, drive: 0 })?;
+//! assert_eq!(room.step(Step::Finish { server: 0, slot: 0 })?, Answer::Committed(enter));
+//! let catalogue = room.catalogue(0)?;
+//! assert_eq!((catalogue.taken, catalogue.skipped), (1, 0));
+//! assert_eq!(catalogue.hoards[5], 9);
+//! # Ok(())
+//! # }
+//! ```
+
+mod error;
+mod raw;
+mod record;
+mod room;
+mod step;
+
+pub use error::Error;
+pub use record::{Record, LONGEST_RECORD};
+pub use room::{room_length, Catalogue, Room, PIECES};
+pub use step::{Answer, Step};

@@ -1,0 +1,122 @@
+//! The functions of the library, each with the safe function that calls it. A
+//! slice is a pointer and then a length.
+
+use crate::Error;
+
+mod library {
+    extern "C" {
+        pub fn register_length(servers: u32, drives: u32, slots: u32) -> u32;
+        pub fn register_open(
+            row: *mut u32,
+            cells: usize,
+            servers: u32,
+            drives: u32,
+            slots: u32,
+        ) -> u32;
+        pub fn register_step(room: *mut u32, cells: usize, bytes: *const u8, length: usize) -> u64;
+        pub fn register_catalogue(
+            room: *const u32,
+            cells: usize,
+            server: u32,
+            out: *mut u32,
+            length: usize,
+        ) -> u64;
+        pub fn register_read(bytes: *const u8, length: usize) -> u64;
+        pub fn register_write(
+            kind: u8,
+            server: u8,
+            slot: u8,
+            drive: u8,
+            other: u8,
+            number: u32,
+            bytes: *mut u8,
+            length: usize,
+        ) -> u64;
+    }
+}
+
+/// The word of a refusal.
+const REFUSED: u32 = 4;
+
+/// The word and the number of an answer.
+fn halves(answer: u64) -> (u32, u32) {
+    ((answer >> 32) as u32, answer as u32)
+}
+
+/// The number of an accepted call.
+fn accepted(answer: u64) -> Result<u32, Error> {
+    match halves(answer) {
+        (REFUSED, number) => Err(Error::of(number)),
+        (_, number) => Ok(number),
+    }
+}
+
+// In every call below each pointer comes with the length of the slice that it is
+// of, and a slice that is written is lent by `&mut`, so it overlaps no other.
+
+pub(crate) fn length(servers: u32, drives: u32, slots: u32) -> u32 {
+    // SAFETY: numbers alone are passed.
+    unsafe { library::register_length(servers, drives, slots) }
+}
+
+pub(crate) fn open(row: &mut [u32], servers: u32, drives: u32, slots: u32) -> Result<(), Error> {
+    // SAFETY: the pointer and the length are those of a slice.
+    let number =
+        unsafe { library::register_open(row.as_mut_ptr(), row.len(), servers, drives, slots) };
+    match number {
+        0 => Ok(()),
+        number => Err(Error::of(number)),
+    }
+}
+
+/// The word and the number of the answer.
+pub(crate) fn step(room: &mut [u32], record: &[u8]) -> (u32, u32) {
+    // SAFETY: the pointers and the lengths are those of two slices.
+    halves(unsafe {
+        library::register_step(room.as_mut_ptr(), room.len(), record.as_ptr(), record.len())
+    })
+}
+
+/// How many commands were taken, and how many of these were skipped.
+pub(crate) fn catalogue(room: &[u32], server: u32, out: &mut [u32]) -> Result<(u32, u32), Error> {
+    // SAFETY: the pointers and the lengths are those of two slices.
+    let answer = unsafe {
+        library::register_catalogue(room.as_ptr(), room.len(), server, out.as_mut_ptr(), out.len())
+    };
+    accepted(answer).map(|number| (number / 256, number % 256))
+}
+
+/// The length of the record at the start of `bytes`.
+pub(crate) fn read(bytes: &[u8]) -> Result<usize, Error> {
+    // SAFETY: the pointer and the length are those of a slice.
+    accepted(unsafe { library::register_read(bytes.as_ptr(), bytes.len()) })
+        .map(|used| used as usize)
+}
+
+/// A step as numbers: its kind, and the fields that the kind has.
+pub(crate) struct Fields {
+    pub kind: u8,
+    pub server: u8,
+    pub slot: u8,
+    pub drive: u8,
+    pub other: u8,
+    pub number: u32,
+}
+
+/// Writes the record of a step; the length used.
+pub(crate) fn write(f: Fields, bytes: &mut [u8]) -> Result<usize, Error> {
+    // SAFETY: the pointer and the length are those of a slice.
+    let answer = unsafe {
+        library::register_write(
+            f.kind,
+            f.server,
+            f.slot,
+            f.drive,
+            f.other,
+            f.number,
+            bytes.as_mut_ptr(),
+            bytes.len(),
+        )
+    };
+    accepted(answer).map(|used| used as usize)
+}

@@ -1,0 +1,141 @@
+//! The room and its calls.
+
+use crate::raw;
+use crate::{Answer, Error, Record, Step};
+
+/// The number of pieces, and of a catalogue's cells.
+pub const PIECES: usize = 64;
+
+/// The number of cells of a room, none where the sizes do not fit.
+///
+/// ```
+/// assert_eq!(register::room_length(4, 7, 16), Some(1988));
+/// assert_eq!(register::room_length(5, 7, 16), None);
+/// ```
+pub fn room_length(servers: u32, drives: u32, slots: u32) -> Option<usize> {
+    match raw::length(servers, drives, slots) {
+        0 => None,
+        cells => Some(cells as usize),
+    }
+}
+
+/// A row of cells that is used as a room: a `Vec<u32>` that it owns, or any other
+/// row, such as a `&mut [u32]` that is lent.
+///
+/// The cells may hold anything: each call judges them all and is refused with
+/// [`Error::Cells`] where they are no room.
+///
+/// ```
+/// use register::{Error, Room, Step};
+///
+/// let mut cells = [0; 17];
+/// let mut room = Room::open_in(&mut cells[..], 1, 1, 1)?;
+/// room.step(Step::Offer { server: 0, slot: 0, command: 66_825 })?;
+/// assert_eq!(cells[8], 66_825);
+///
+/// cells[8] = 1;
+/// let mut room = Room::over(&mut cells[..]);
+/// assert_eq!(room.step(Step::Fail { server: 0 }), Err(Error::Cells));
+/// # Ok::<(), Error>(())
+/// ```
+#[derive(Clone, Debug, PartialEq, Eq)]
+pub struct Room<R = Vec<u32>> {
+    row: R,
+}
+
+/// What one server knows of the pieces.
+#[derive(Clone, Copy, Debug, PartialEq, Eq)]
+pub struct Catalogue {
+    /// Each piece's hoard, 0 for a piece that is in none.
+    pub hoards: [u32; PIECES],
+    /// How many commands were taken.
+    pub taken: u32,
+    /// How many of these were skipped.
+    pub skipped: u32,
+}
+
+impl Room<Vec<u32>> {
+    /// A new room that owns its cells.
+    ///
+    /// ```
+    /// let room = register::Room::open(2, 3, 4)?;
+    /// assert_eq!(room.cells().len(), 156);
+    /// # Ok::<(), register::Error>(())
+    /// ```
+    pub fn open(servers: u32, drives: u32, slots: u32) -> Result<Self, Error> {
+        let cells = room_length(servers, drives, slots).ok_or(Error::Sizes)?;
+        Room::open_in(vec![0; cells], servers, drives, slots)
+    }
+}
+
+impl<R: AsRef<[u32]> + AsMut<[u32]>> Room<R> {
+    /// Makes a row a new room. What the cells held is not heeded.
+    pub fn open_in(mut row: R, servers: u32, drives: u32, slots: u32) -> Result<Self, Error> {
+        raw::open(row.as_mut(), servers, drives, slots)?;
+        Ok(Room { row })
+    }
+
+    /// A row that was opened before, or any other.
+    pub fn over(row: R) -> Self {
+        Room { row }
+    }
+
+    /// The cells.
+    pub fn cells(&self) -> &[u32] {
+        self.row.as_ref()
+    }
+
+    /// The row, handed back.
+    pub fn into_row(self) -> R {
+        self.row
+    }
+
+    /// Takes one step.
+    ///
+    /// ```
+    /// use register::{Answer, Error, Room, Step};
+    ///
+    /// let mut room = Room::open(2, 3, 4)?;
+    /// assert_eq!(room.step(Step::DriveOff { drive: 1 }), Ok(Answer::Done));
+    /// let recall = Step::Recall { server: 0, slot: 0, drive: 1 };
+    /// assert_eq!(room.step(recall), Err(Error::DriveOff));
+    /// # Ok::<(), Error>(())
+    /// ```
+    pub fn step(&mut self, step: Step) -> Result<Answer, Error> {
+        self.step_record(Record::of(step).bytes())
+    }
+
+    /// Takes the step of a record. Bytes beyond the record are ignored.
+    ///
+    /// ```
+    /// use register::{Answer, Error, Room};
+    ///
+    /// let mut room = Room::open(2, 3, 4)?;
+    /// assert_eq!(room.step_record(&[0x04, 0x09, 1]), Ok(Answer::Done));
+    /// assert_eq!(room.step_record(&[0x04, 0x09]), Err(Error::CutShort));
+    /// # Ok::<(), Error>(())
+    /// ```
+    pub fn step_record(&mut self, record: &[u8]) -> Result<Answer, Error> {
+        let (word, number) = raw::step(self.row.as_mut(), record);
+        Answer::of(word, number)
+    }
+
+    /// What one server knows of the pieces.
+    ///
+    /// ```
+    /// let room = register::Room::open(2, 3, 4)?;
+    /// assert_eq!(room.catalogue(1)?.taken, 0);
+    /// assert_eq!(room.catalogue(2), Err(register::Error::Beyond));
+    /// # Ok::<(), register::Error>(())
+    /// ```
+    pub fn catalogue(&self, server: u32) -> Result<Catalogue, Error> {
+        let mut hoards = [0; PIECES];
+        let (taken, skipped) = self.catalogue_in(server, &mut hoards)?;
+        Ok(Catalogue { hoards, taken, skipped })
+    }
+
+    /// The same in 64 lent cells: how many commands were taken and skipped.
+    pub fn catalogue_in(&self, server: u32, hoards: &mut [u32]) -> Result<(u32, u32), Error> {
+        raw::catalogue(self.row.as_ref(), server, hoards)
+    }
+}
