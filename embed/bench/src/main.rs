@@ -1,5 +1,5 @@
 //! Times the register beside the other implementation, and prints the tables of
-//! docs/PERFORMANCE.md. No test: it fails only where an answer differs.
+//! docs/PERFORMANCE.md. No test: it fails only where the cells differ.
 
 mod clock;
 mod rooms;
@@ -88,7 +88,7 @@ fn time_run(sizes: Sizes) -> Times {
     let records = run(sizes, &start);
     let mut mine = Room::over(start.clone());
     let mut theirs = start.clone();
-    side_by_side(
+    let times = side_by_side(
         ROUNDS / 4,
         records.len(),
         || {
@@ -103,7 +103,9 @@ fn time_run(sizes: Sizes) -> Times {
                 black_box(other_step(&mut theirs, record));
             }
         },
-    )
+    );
+    assert_eq!(mine.cells(), theirs, "the cells differ");
+    times
 }
 
 /// The records of such a run.
