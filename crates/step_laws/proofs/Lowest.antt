@@ -98,9 +98,23 @@ abbrev pub rises : ℕ → List Refusal → Bool
 rises n [] = true
 rises n (r ∷ rs) = ltb n (r .number) && rises (r .number) rs
 
+-- whatever comes before, the refusals of a kind's own rule rise above 5
+later-rising : (z : Sizes) (cells : List ℕ) (st : Step) → rises 5 (laterRefusals z cells st) ≡ true
+unfolding laterRefusals
+later-rising z cells (Offer p s c) = refl
+later-rising z cells (Recall p s d) = refl
+later-rising z cells (Rejoin p s b) = refl
+later-rising z cells (Bid p s b) = refl
+later-rising z cells (Write p s d) = refl
+later-rising z cells (Read p s d q) = refl
+later-rising z cells (Finish p s) = refl
+later-rising z cells (Fail p) = refl
+later-rising z cells (DriveOff d) = refl
+later-rising z cells (DriveOn d) = refl
+
 pub rising : (cells : List ℕ) (st : Step) → rises 0 (refusals cells st) ≡ true
-unfolding refusals laterRefusals
-rising cells st = refl
+unfolding refusals
+rising cells st = later-rising (sizesOf cells) cells st
 
 -- so every other that applies is above n, and at least the first
 pub record Above (n first m : ℕ) : Type 0 where

@@ -1,5 +1,5 @@
--- Who can bring which number (01): when each refusal of a step applies, by its number. A condition that a kind does not
--- have never applies to it. The lowest number that applies is given.
+-- Who can bring which number (01): the refusals that each kind of step can get, with the condition of each, by rising
+-- number. The lowest that applies is given.
 use Prim.Native.Nat.{ℕ}
 use mathlib.Core.Bool.{Bool, true, false, not, _&&_}
 use mathlib.Core.List.{List, [], _∷_}
@@ -21,139 +21,67 @@ use Rattle.layout.specs.Cells.{sizesOf, offOf, serverOf, blockOf}
 use Rattle.range.specs.Range.{inRange}
 use Rattle.room.specs.Judge.{limitsOf}
 
--- 6: "ballot 0, above 1,000,000 or another server's"
-abbrev pub wrongBallot : Sizes → Step → Bool
-wrongBallot z (Offer p s c) = false
-wrongBallot z (Recall p s d) = false
-wrongBallot z (Rejoin p s b) = not (owned (z .servers) p b)
-wrongBallot z (Bid p s b) = not (owned (z .servers) p b)
-wrongBallot z (Write p s d) = false
-wrongBallot z (Read p s d q) = false
-wrongBallot z (Finish p s) = false
-wrongBallot z (Fail p) = false
-wrongBallot z (DriveOff d) = false
-wrongBallot z (DriveOn d) = false
+pub record Refusal : Type 0 where
+  pub number : ℕ
+  pub applies : Bool
 
--- 7: "wrong phase"
-abbrev pub wrongPhase : Sizes → List ℕ → Step → Bool
-wrongPhase z cells (Offer p s c) = false
-wrongPhase z cells (Recall p s d) = not (eqb (serverOf z cells s p .phase) 0)
-wrongPhase z cells (Rejoin p s b) = not (eqb (serverOf z cells s p .phase) 0)
-wrongPhase z cells (Bid p s b) = not (balloting (serverOf z cells s p))
-wrongPhase z cells (Write p s d) = not (balloting (serverOf z cells s p))
-wrongPhase z cells (Read p s d q) = not (balloting (serverOf z cells s p))
-wrongPhase z cells (Finish p s) = not (balloting (serverOf z cells s p))
-wrongPhase z cells (Fail p) = false
-wrongPhase z cells (DriveOff d) = false
-wrongPhase z cells (DriveOn d) = false
-
--- 8: "drive off (Recall, Write, Read)"
-abbrev pub driveIsOff : List ℕ → Step → Bool
-driveIsOff cells (Offer p s c) = false
-driveIsOff cells (Recall p s d) = stands (offOf cells) d
-driveIsOff cells (Rejoin p s b) = false
-driveIsOff cells (Bid p s b) = false
-driveIsOff cells (Write p s d) = stands (offOf cells) d
-driveIsOff cells (Read p s d q) = stands (offOf cells) d
-driveIsOff cells (Finish p s) = false
-driveIsOff cells (Fail p) = false
-driveIsOff cells (DriveOff d) = false
-driveIsOff cells (DriveOn d) = false
-
--- 9: "drive not written in this phase"
-abbrev pub notWritten : Sizes → List ℕ → Step → Bool
-notWritten z cells (Offer p s c) = false
-notWritten z cells (Recall p s d) = false
-notWritten z cells (Rejoin p s b) = false
-notWritten z cells (Bid p s b) = false
-notWritten z cells (Write p s d) = false
-notWritten z cells (Read p s d q) = not (stands (serverOf z cells s p .written) d)
-notWritten z cells (Finish p s) = false
-notWritten z cells (Fail p) = false
-notWritten z cells (DriveOff d) = false
-notWritten z cells (DriveOn d) = false
-
--- 10: "no majority"
-abbrev pub noMajority : Sizes → List ℕ → Step → Bool
-noMajority z cells (Offer p s c) = false
-noMajority z cells (Recall p s d) = false
-noMajority z cells (Rejoin p s b) = not (majority (z .drives) (recalledOn (serverOf z cells s p) p))
-noMajority z cells (Bid p s b) = false
-noMajority z cells (Write p s d) = false
-noMajority z cells (Read p s d q) = false
-noMajority z cells (Finish p s) = not (majority (z .drives) (completeOn (z .servers) (serverOf z cells s p) p))
-noMajority z cells (Fail p) = false
-noMajority z cells (DriveOff d) = false
-noMajority z cells (DriveOn d) = false
-
--- 11: "ballot not above top (Rejoin) or own mbal (Bid)"
-abbrev pub notAbove : Sizes → List ℕ → Step → Bool
-notAbove z cells (Offer p s c) = false
-notAbove z cells (Recall p s d) = false
-notAbove z cells (Rejoin p s b) = not (ltb (serverOf z cells s p .top) b)
-notAbove z cells (Bid p s b) = not (ltb (serverOf z cells s p .mbal) b)
-notAbove z cells (Write p s d) = false
-notAbove z cells (Read p s d q) = false
-notAbove z cells (Finish p s) = false
-notAbove z cells (Fail p) = false
-notAbove z cells (DriveOff d) = false
-notAbove z cells (DriveOn d) = false
-
--- 12: "seeninp and offer both 0 (Finish in phase 1)"
-abbrev pub nothingToTry : Sizes → List ℕ → Step → Bool
-nothingToTry z cells (Offer p s c) = false
-nothingToTry z cells (Recall p s d) = false
-nothingToTry z cells (Rejoin p s b) = false
-nothingToTry z cells (Bid p s b) = false
-nothingToTry z cells (Write p s d) = false
-nothingToTry z cells (Read p s d q) = false
-nothingToTry z cells (Finish p s) = eqb (serverOf z cells s p .phase) 1 && eqb (commandOf (serverOf z cells s p)) 0
-nothingToTry z cells (Fail p) = false
-nothingToTry z cells (DriveOff d) = false
-nothingToTry z cells (DriveOn d) = false
+-- refusal n where the condition holds
+infix 70 _where-holds_
+abbrev pub _where-holds_ : ℕ → Bool → Refusal
+n where-holds b = record { number = n; applies = b }
 
 abbrev pub isSpent : Next → Bool
 isSpent (Ballot b) = false
 isSpent Spent = true
 
--- 13: "outbid and no own ballot left"
-abbrev pub noneLeft : Sizes → List ℕ → Step → Bool
-noneLeft z cells (Offer p s c) = false
-noneLeft z cells (Recall p s d) = false
-noneLeft z cells (Rejoin p s b) = false
-noneLeft z cells (Bid p s b) = false
-noneLeft z cells (Write p s d) = false
-noneLeft z cells (Read p s d q) =
-    not (ltb (blockOf z cells s d q .mbal) (serverOf z cells s p .mbal))
-    && isSpent (nextOwn (z .servers) p (blockOf z cells s d q .mbal))
-noneLeft z cells (Finish p s) = false
-noneLeft z cells (Fail p) = false
-noneLeft z cells (DriveOff d) = false
-noneLeft z cells (DriveOn d) = false
-
-pub record Refusal : Type 0 where
-  pub number : ℕ
-  pub applies : Bool
-
--- the refusals of the run so far and of the writer's ballot, for a room of these sizes
+-- The writer's ballot: 6 "ballot 0, above 1,000,000 or another server's". The run so far: 7 "wrong phase"; 9 "drive not
+-- written in this phase"; 10 "no majority"; 11 "ballot not above top (Rejoin) or own mbal (Bid)"; 12 "seeninp and offer
+-- both 0 (Finish in phase 1)"; 13 "outbid and no own ballot left". Whoever switches drives: 8 "drive off (Recall, Write,
+-- Read)".
 unfoldable pub laterRefusals : Sizes → List ℕ → Step → List Refusal
-laterRefusals z cells st =
-    record { number = 6; applies = wrongBallot z st }
-    ∷ record { number = 7; applies = wrongPhase z cells st }
-    ∷ record { number = 8; applies = driveIsOff cells st }
-    ∷ record { number = 9; applies = notWritten z cells st }
-    ∷ record { number = 10; applies = noMajority z cells st }
-    ∷ record { number = 11; applies = notAbove z cells st }
-    ∷ record { number = 12; applies = nothingToTry z cells st }
-    ∷ record { number = 13; applies = noneLeft z cells st }
+laterRefusals z cells (Offer p s c) = []
+laterRefusals z cells (Recall p s d) =
+    7 where-holds not (eqb (serverOf z cells s p .phase) 0)
+    ∷ 8 where-holds stands (offOf cells) d
     ∷ []
+laterRefusals z cells (Rejoin p s b) =
+    6 where-holds not (owned (z .servers) p b)
+    ∷ 7 where-holds not (eqb (serverOf z cells s p .phase) 0)
+    ∷ 10 where-holds not (majority (z .drives) (recalledOn (serverOf z cells s p) p))
+    ∷ 11 where-holds not (ltb (serverOf z cells s p .top) b)
+    ∷ []
+laterRefusals z cells (Bid p s b) =
+    6 where-holds not (owned (z .servers) p b)
+    ∷ 7 where-holds not (balloting (serverOf z cells s p))
+    ∷ 11 where-holds not (ltb (serverOf z cells s p .mbal) b)
+    ∷ []
+laterRefusals z cells (Write p s d) =
+    7 where-holds not (balloting (serverOf z cells s p))
+    ∷ 8 where-holds stands (offOf cells) d
+    ∷ []
+laterRefusals z cells (Read p s d q) =
+    7 where-holds not (balloting (serverOf z cells s p))
+    ∷ 8 where-holds stands (offOf cells) d
+    ∷ 9 where-holds not (stands (serverOf z cells s p .written) d)
+    ∷ 13 where-holds
+    (not (ltb (blockOf z cells s d q .mbal) (serverOf z cells s p .mbal))
+    && isSpent (nextOwn (z .servers) p (blockOf z cells s d q .mbal)))
+    ∷ []
+laterRefusals z cells (Finish p s) =
+    7 where-holds not (balloting (serverOf z cells s p))
+    ∷ 10 where-holds not (majority (z .drives) (completeOn (z .servers) (serverOf z cells s p) p))
+    ∷ 12 where-holds (eqb (serverOf z cells s p .phase) 1 && eqb (commandOf (serverOf z cells s p)) 0)
+    ∷ []
+laterRefusals z cells (Fail p) = []
+laterRefusals z cells (DriveOff d) = []
+laterRefusals z cells (DriveOn d) = []
 
 -- every refusal of a step, with its number
 unfoldable pub refusals : List ℕ → Step → List Refusal
 refusals cells st =
-    record { number = 3; applies = not (inRange (limitsOf cells) cells) }
-    ∷ record { number = 4; applies = not (placesFit (sizesOf cells) st) }
-    ∷ record { number = 5; applies = not (commandFits (limitsOf cells) st) }
+    3 where-holds not (inRange (limitsOf cells) cells)
+    ∷ 4 where-holds not (placesFit (sizesOf cells) st)
+    ∷ 5 where-holds not (commandFits (limitsOf cells) st)
     ∷ laterRefusals (sizesOf cells) cells st
 
 -- the number of the first that applies; 0 where none does. The numbers rise, so the first is the lowest.
