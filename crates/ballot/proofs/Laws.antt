@@ -6,7 +6,8 @@ use native.Mathlib.Omega.{arith}
 use lib.Dec.{eqb, leb, ltb}
 use borrow.Author.Tests.{eqb-true, leb-true, ltb-true, lt-ltb, le-leb, eq-eqb}
 use Rattle.lemmas.proofs.Tests.{by-test, and-left, and-right, and-intro}
-use Rattle.ballot.specs.Ballot.{limit, isBallot, owned, leastAbove, askable, nextOwn}
+use Rattle.state.specs.Block.{limit}
+use Rattle.ballot.specs.Ballot.{isBallot, owned, leastAbove, askable, nextOwn}
 use Rattle.ballot.specs.declared.Next.the-variants.{Ballot, Spent}
 
 -- what owning a ballot says

@@ -2,16 +2,13 @@
 use Prim.Native.Nat.{ℕ, _+_, _-_, _%_}
 use mathlib.Core.Bool.{Bool, true, false, _&&_}
 use lib.Dec.{eqb, leb, ltb}
+use Rattle.state.specs.Block.{ballotFits}
 use Rattle.ballot.specs.declared.Next.{Next}
 use Rattle.ballot.specs.declared.Next.the-variants.{Ballot, Spent}
 
--- the largest ballot
-abbrev pub limit : ℕ
-limit = 1000000
-
 -- a number that is a ballot at all
 abbrev pub isBallot : ℕ → Bool
-isBallot b = leb 1 b && leb b limit
+isBallot b = leb 1 b && ballotFits b
 
 -- b is a ballot of server p in a room of n servers
 unfoldable pub owned : ℕ → ℕ → ℕ → Bool
@@ -23,7 +20,7 @@ leastAbove n p f = f + (p + n - f % n) % n + 1
 
 -- a room has 1 to 4 servers, p is one of them, and f is at most the largest ballot
 abbrev pub askable : ℕ → ℕ → ℕ → Bool
-askable n p f = ltb p n && leb n 4 && leb f limit
+askable n p f = ltb p n && leb n 4 && ballotFits f
 
 abbrev pub pickNext : Bool → Next → Next → Next
 pickNext true a b = a
@@ -31,4 +28,4 @@ pickNext false a b = b
 
 -- p's least ballot above f, or none where its ballots are spent
 unfoldable pub nextOwn : ℕ → ℕ → ℕ → Next
-nextOwn n p f = pickNext (askable n p f && leb (leastAbove n p f) limit) (Ballot (leastAbove n p f)) Spent
+nextOwn n p f = pickNext (askable n p f && ballotFits (leastAbove n p f)) (Ballot (leastAbove n p f)) Spent

@@ -1,9 +1,7 @@
-// Ballots: the limit, who owns one, and a server's least ballot above one that it found.
+// Ballots: who owns one, and a server's least ballot above one that it found.
 ghost use mathlib.Core.Path.{_≡_};
 ghost use Rattle.ballot.specs.Ballot.{owned, nextOwn};
-
-// The largest ballot.
-pub const LIMIT: u32 = 1000000;
+use state::Block;
 
 // A server's next ballot, or none where its ballots are spent.
 pub enum Next {
@@ -19,7 +17,7 @@ pub fn is_own(n: u32, p: u32, b: u32) -> bool
         if b < 1 {
             return false;
         }
-        (b <= LIMIT) & ((b - 1) % n == p)
+        Block::ballot_fits(b) & ((b - 1) % n == p)
     } else {
         false
     }
@@ -29,9 +27,9 @@ pub fn is_own(n: u32, p: u32, b: u32) -> bool
 pub fn next_own(n: u32, p: u32, found: u32) -> Next
     ensures { λ r. ⌜ r ≡ nextOwn n p found ⌝ }
 {
-    if (p < n) & (n <= 4) & (found <= LIMIT) {
+    if (p < n) & (n <= 4) & Block::ballot_fits(found) {
         let least = found + (p + n - found % n) % n + 1;
-        if least <= LIMIT {
+        if Block::ballot_fits(least) {
             return Next::Ballot(least);
         }
     }

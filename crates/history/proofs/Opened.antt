@@ -9,7 +9,8 @@ use Rattle.quorum.specs.Sets.{within}
 use Rattle.quorum.proofs.MaskLaws.{within-zero}
 use Rattle.state.specs.declared.Server.{Server}
 use Rattle.state.specs.declared.Sizes.{Sizes}
-use Rattle.state.specs.Server.{failed, blank}
+use Rattle.state.specs.Block.{blank}
+use Rattle.state.specs.Server.{failed}
 use Rattle.synod.specs.Slot.{configOf, noGhost, blankSlot}
 use Rattle.synod.proofs.Invariant.{begins}
 use Rattle.layout.specs.Places.{base, roomLength, serverAt, nthBlockAt, blockAt, Fit}

@@ -7,7 +7,7 @@ use native.Mathlib.Omega.{arith}
 use lib.Dec.{eqb, leb, ltb}
 use borrow.Author.Tests.{leb-true, le-leb, lt-ltb}
 use Rattle.lemmas.proofs.Tests.{and-left, and-right, and-intro, or-right}
-use Rattle.ballot.specs.Ballot.{limit}
+use Rattle.state.specs.Block.{limit, ballotFits}
 use Rattle.command.specs.Command.{isCommand}
 use Rattle.quorum.specs.Marks.{stands}
 use Rattle.quorum.specs.Sets.{within}
@@ -17,7 +17,7 @@ use Rattle.state.specs.declared.Server.{Server}
 use Rattle.state.specs.declared.Sizes.{Sizes}
 use Rattle.layout.specs.Places.{Fit}
 use Rattle.range.specs.declared.Masks.{Masks}
-use Rattle.range.specs.Range.{legalDrives, legalReads, ballotFits, valueFits, numbersFit, serverFits, blockFits}
+use Rattle.range.specs.Range.{legalDrives, legalReads, valueFits, numbersFit, serverFits, blockFits}
 
 pub record ServerIn (limits : List ℕ) (k : Masks) (v : Server) : Type 0 where
   pub phase : v .phase ≤ 3

@@ -4,9 +4,9 @@ use mathlib.Core.Bool.{Bool, _&&_, _||_}
 use mathlib.Core.List.{List}
 use lib.ListN.{length}
 use lib.Dec.{eqb, leb, ltb}
-use Rattle.ballot.specs.Ballot.{limit}
 use Rattle.command.specs.Command.{isCommand}
 use Rattle.quorum.specs.Sets.{allBelow, gathered, within}
+use Rattle.state.specs.Block.{ballotFits}
 use Rattle.state.specs.declared.Block.{Block}
 use Rattle.state.specs.declared.Server.{Server}
 use Rattle.state.specs.declared.Sizes.{Sizes}
@@ -23,10 +23,6 @@ legalReads z = gathered 32 (λ i. ltb (i / 4) (z .drives) && ltb (i % 4) (z .ser
 
 abbrev pub masksOf : Sizes → Masks
 masksOf z = record { drives = legalDrives z; reads = legalReads z }
-
--- "each mbal, bal, top, seenbal is at most 1,000,000"
-abbrev pub ballotFits : ℕ → Bool
-ballotFits b = leb b limit
 
 -- "each inp, offer, seeninp is 0 or a command"
 unfoldable pub valueFits : List ℕ → ℕ → Bool

@@ -6,7 +6,6 @@ ghost use Rattle.quorum.specs.Sets.{allBelow};
 ghost use Rattle.layout.specs.Places.{Fit, Row};
 ghost use Rattle.layout.specs.Cells.{serverIn, blockIn};
 ghost use Rattle.range.specs.Range.{masksOf, valueFits, numbersFit, serverFits, blockFits, slotFits, inRange};
-use ballot::LIMIT;
 use command::is_command;
 use layout::block_in;
 use layout::room_length;
@@ -128,10 +127,10 @@ fn numbers_fit(k: Masks, v: Server) -> bool
     ensures { λ r. ⌜ r ≡ numbersFit k v ⌝ }
 {
     (v.phase <= 3)
-        & (v.mbal <= LIMIT)
-        & (v.bal <= LIMIT)
-        & (v.top <= LIMIT)
-        & (v.seenbal <= LIMIT)
+        & Block::ballot_fits(v.mbal)
+        & Block::ballot_fits(v.bal)
+        & Block::ballot_fits(v.top)
+        & Block::ballot_fits(v.seenbal)
         & only_legal(v.written, k.drives)
         & only_legal(v.read, k.reads)
 }
@@ -140,7 +139,7 @@ fn numbers_fit(k: Masks, v: Server) -> bool
 fn block_fits(limits: &[u32; 8], b: Block) -> bool
     ensures { λ r. ⌜ r ≡ blockFits (now (limits .entry)) b ⌝ }
 {
-    if !((b.mbal <= LIMIT) & (b.bal <= LIMIT)) {
+    if !(Block::ballot_fits(b.mbal) & Block::ballot_fits(b.bal)) {
         return false;
     }
     value_fits(limits, b.inp)

@@ -60,12 +60,12 @@ pub fn rejoin(servers: u32, drives: u32, v: Server, p: u8, ballot: u32) -> Rulin
     if ballot <= v.top {
         return Ruling::Refused(11);
     }
-    let mut w = v;
-    w.phase = 1;
-    w.mbal = ballot;
-    w.bal = v.seenbal;
-    w.inp = v.seeninp;
-    Ruling::Accepted(w.cleared(), Answer::Done)
+    let own = Block {
+        mbal: ballot,
+        bal: v.seenbal,
+        inp: v.seeninp,
+    };
+    Ruling::Accepted(v.with_own(1, own).cleared(), Answer::Done)
 }
 
 // 4 Bid, phase 1 or 2, the ballot p's and above the own mbal.
@@ -131,19 +131,20 @@ pub fn finish(servers: u32, drives: u32, v: Server, p: u8) -> Ruling
     if !is_majority(drives, drives::complete(servers, v, p, drives)) {
         return Ruling::Refused(10);
     }
-    let mut w = v;
     if v.phase == 1 {
         let command = command_of(v);
         if command == 0 {
             return Ruling::Refused(12);
         }
-        w.phase = 2;
-        w.bal = v.mbal;
-        w.inp = command;
-        return Ruling::Accepted(w.cleared(), Answer::Chosen(command));
+        let own = Block {
+            mbal: v.mbal,
+            bal: v.mbal,
+            inp: command,
+        };
+        return Ruling::Accepted(v.with_own(2, own).cleared(), Answer::Chosen(command));
     }
-    w.phase = 3;
-    Ruling::Accepted(w.cleared(), Answer::Committed(v.inp))
+    let own = v.own_block();
+    Ruling::Accepted(v.with_own(3, own).cleared(), Answer::Committed(v.inp))
 }
 
 // A block with a ballot that is not below the own one was found.
@@ -157,19 +158,23 @@ fn outbid(servers: u32, v: Server, p: u8, found: u32) -> Ruling
 }
 
 // Phase 1 of a new ballot.
-fn restart(mut v: Server, ballot: u32) -> Server
+fn restart(v: Server, ballot: u32) -> Server
     ensures { λ r. ⌜ r ≡ bidding v ballot ⌝ }
 {
-    v.phase = 1;
-    v.mbal = ballot;
-    v.cleared()
+    let own = Block {
+        mbal: ballot,
+        bal: v.bal,
+        inp: v.inp,
+    };
+    v.with_own(1, own).cleared()
 }
 
 // A block met in this phase: a larger bal replaces what was seen.
 fn meet(mut v: Server, b: Block) -> Server
     ensures { λ r. ⌜ r ≡ meeting v b ⌝ }
 {
-    if v.seenbal < b.bal {
+    let better = v.seenbal < b.bal;
+    if better {
         v.seenbal = b.bal;
         v.seeninp = b.inp;
     }

@@ -5,11 +5,23 @@ use lib.Dec.{eqb}
 use Rattle.state.specs.declared.Block.{Block}
 use Rattle.state.specs.declared.Server.{Server}
 
--- "A blank block is all zero"
-abbrev pub blank : Block
-blank = record { mbal = 0; bal = 0; inp = 0 }
+-- the record in this phase and with this own block
+abbrev pub withOwn : Server → ℕ → Block → Server
+withOwn v phase own =
+    record {
+      phase = phase;
+      mbal = own .mbal;
+      bal = own .bal;
+      inp = own .inp;
+      offer = v .offer;
+      top = v .top;
+      seenbal = v .seenbal;
+      seeninp = v .seeninp;
+      written = v .written;
+      read = v .read;
+    }
 
--- "Clear means written, read, top become 0 and seenbal, seeninp become the own bal, inp"
+-- clear "means written, read, top become 0 and seenbal, seeninp become the own bal, inp"
 abbrev pub cleared : Server → Server
 cleared v =
     record {

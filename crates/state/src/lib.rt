@@ -1,6 +1,7 @@
 // What the algorithm is about, by value: a block, a server's record, a step, an answer.
 ghost use mathlib.Core.Path.{_≡_};
-ghost use Rattle.state.specs.Server.{cleared, failed, ownBlock, outputOf};
+ghost use Rattle.state.specs.Block.{ballotFits};
+ghost use Rattle.state.specs.Server.{withOwn, cleared, failed, ownBlock, outputOf};
 ghost use Rattle.state.specs.Answers.{codeOf, numberOf};
 
 // How many servers, drives and slots a room has.
@@ -19,13 +20,21 @@ pub struct Block {
 }
 
 impl Block {
+    // Nothing was written yet.
     pub const BLANK: Block = Block {
         mbal: 0,
         bal: 0,
         inp: 0,
     };
-    // The largest ballot that a block can hold.
-    pub const LIMIT: u32 = ballot::LIMIT;
+    // The largest ballot.
+    pub const LIMIT: u32 = 1000000;
+
+    // Whether a cell that holds a ballot may hold this number; 0 is none.
+    pub fn ballot_fits(ballot: u32) -> bool
+        ensures { λ r. ⌜ r ≡ ballotFits ballot ⌝ }
+    {
+        ballot <= Block::LIMIT
+    }
 }
 
 // A server's record in one slot. 01 names the fields; seenbal and seeninp are the best bal met in this phase and its
@@ -44,6 +53,17 @@ pub struct Server {
 }
 
 impl Server {
+    // The record in this phase and with this own block.
+    pub fn with_own(mut self, phase: u32, own: Block) -> Server
+        ensures { λ r. ⌜ r ≡ withOwn self phase own ⌝ }
+    {
+        self.phase = phase;
+        self.mbal = own.mbal;
+        self.bal = own.bal;
+        self.inp = own.inp;
+        self
+    }
+
     // What 01 calls clear, done where a phase begins.
     pub fn cleared(mut self) -> Server
         ensures { λ r. ⌜ r ≡ cleared self ⌝ }
@@ -57,15 +77,12 @@ impl Server {
     }
 
     // The record of a server that has failed: nothing is left of it.
-    pub fn failed(mut self) -> Server
+    pub fn failed(self) -> Server
         ensures { λ r. ⌜ r ≡ failed ⌝ }
     {
-        self.phase = 0;
-        self.mbal = 0;
-        self.bal = 0;
-        self.inp = 0;
-        self.offer = 0;
-        self.cleared()
+        let mut v = self.with_own(0, Block::BLANK);
+        v.offer = 0;
+        v.cleared()
     }
 
     // The block that the server would write.

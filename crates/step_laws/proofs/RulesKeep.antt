@@ -5,7 +5,7 @@ use mathlib.Core.Bool.{Bool, true, false}
 use mathlib.Core.List.{List}
 use native.Mathlib.Omega.{arith}
 use lib.Dec.{eqb, ltb}
-use Rattle.ballot.specs.Ballot.{limit}
+use Rattle.state.specs.Block.{limit}
 use Rattle.ballot.proofs.Laws.{owned-within}
 use Rattle.command.specs.Command.{isCommand}
 use Rattle.quorum.proofs.MaskLaws.{within-zero, within-marked}

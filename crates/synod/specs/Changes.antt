@@ -4,7 +4,7 @@ use lib.Dec.{ltb}
 use Rattle.quorum.specs.Marks.{marked}
 use Rattle.state.specs.declared.Block.{Block}
 use Rattle.state.specs.declared.Server.{Server}
-use Rattle.state.specs.Server.{cleared, pickNumber}
+use Rattle.state.specs.Server.{withOwn, cleared, ownBlock, pickNumber}
 
 -- the bit of server q's block on drive d in the read marks
 abbrev pub readBit : ℕ → ℕ → ℕ
@@ -80,37 +80,11 @@ recalling v b p d = meeting (topping (marking v d p) (b .mbal)) b
 
 -- 3 Rejoin: the own block becomes (ballot, seenbal, seeninp); phase 1; clear
 unfoldable pub rejoining : Server → ℕ → Server
-rejoining v ballot =
-    cleared
-    (record {
-      phase = 1;
-      mbal = ballot;
-      bal = v .seenbal;
-      inp = v .seeninp;
-      offer = v .offer;
-      top = v .top;
-      seenbal = v .seenbal;
-      seeninp = v .seeninp;
-      written = v .written;
-      read = v .read;
-    })
+rejoining v ballot = cleared (withOwn v 1 (record { mbal = ballot; bal = v .seenbal; inp = v .seeninp }))
 
 -- 4 Bid: mbal becomes the ballot; phase 1; clear
 unfoldable pub bidding : Server → ℕ → Server
-bidding v ballot =
-    cleared
-    (record {
-      phase = 1;
-      mbal = ballot;
-      bal = v .bal;
-      inp = v .inp;
-      offer = v .offer;
-      top = v .top;
-      seenbal = v .seenbal;
-      seeninp = v .seeninp;
-      written = v .written;
-      read = v .read;
-    })
+bidding v ballot = cleared (withOwn v 1 (record { mbal = ballot; bal = v .bal; inp = v .inp }))
 
 -- 5 Write: bit d of written set
 unfoldable pub writing : Server → ℕ → Server
@@ -134,34 +108,8 @@ reading v b d q = meeting (marking v d q) b
 
 -- 7 Finish, phase 1: bal becomes mbal, inp the command; phase 2; clear
 unfoldable pub proposing : Server → ℕ → Server
-proposing v command =
-    cleared
-    (record {
-      phase = 2;
-      mbal = v .mbal;
-      bal = v .mbal;
-      inp = command;
-      offer = v .offer;
-      top = v .top;
-      seenbal = v .seenbal;
-      seeninp = v .seeninp;
-      written = v .written;
-      read = v .read;
-    })
+proposing v command = cleared (withOwn v 2 (record { mbal = v .mbal; bal = v .mbal; inp = command }))
 
 -- 7 Finish, phase 2: phase 3; clear
 unfoldable pub committing : Server → Server
-committing v =
-    cleared
-    (record {
-      phase = 3;
-      mbal = v .mbal;
-      bal = v .bal;
-      inp = v .inp;
-      offer = v .offer;
-      top = v .top;
-      seenbal = v .seenbal;
-      seeninp = v .seeninp;
-      written = v .written;
-      read = v .read;
-    })
+committing v = cleared (withOwn v 3 (ownBlock v))

@@ -1,13 +1,15 @@
 -- `ballot::next_own` meets its contract: it computes the formula of `leastAbove`, whose parts are small.
+use borrow.Author.Needs.{needs}
 use native.Mathlib.Omega.{arith}
 use native.Mathlib.Nat.{mod-lt}
-use mathlib.Core.Path.{_≡_}
-use mathlib.Core.Bool.{true, _&&_}
+use mathlib.Core.Path.{_≡_, _∙_, sym, ap}
+use mathlib.Core.Bool.{Bool, true, _&&_}
 use Prim.Native.Nat.{ℕ, _<_, _≤_, _+_, _-_, _%_}
 use lib.Dec.{leb, ltb}
-use borrow.Author.Tests.{ltb-true, leb-true, le-leb, lt-leb}
+use borrow.Author.Tests.{ltb-true, leb-true}
 use Rattle.lemmas.proofs.Tests.{and-left, and-right}
-use Rattle.ballot.specs.Ballot.{limit, askable, leastAbove, nextOwn}
+use Rattle.state.specs.Block.{limit}
+use Rattle.ballot.specs.Ballot.{askable, leastAbove, nextOwn}
 use Rattle.ballot.proofs.next_own.Statement.{statement}
 use Rattle.ballot.proofs.next_own.Tie as tie
 
@@ -31,8 +33,20 @@ small n p f e =
       ahead = mod-lt (p + n - f % n) pos;
     }
 
-at : (c : tie.Then1) → Small (c .before .args .n) (c .before .args .p) (c .before .args .found)
-at c = small (c .before .args .n) (c .before .args .p) (c .before .args .found) (c .if1 .taken)
+-- the code's test of its arguments is the rule's
+asked : (c : tie.After-ballot-fits)
+    → (ltb (c .before .args .p) (c .before .args .n) && leb (c .before .args .n) 4 && c .ballot-fits .result)
+    ≡ askable (c .before .args .n) (c .before .args .p) (c .before .args .found)
+asked c =
+    ap (λ (b : Bool). ltb (c .before .args .p) (c .before .args .n) && leb (c .before .args .n) 4 && b) (c .ballot-fits .ensures)
+
+at : (c : tie.Then1) → Small (c .before .before .args .n) (c .before .before .args .p) (c .before .before .args .found)
+at c =
+    small (c .before .before .args .n) (c .before .before .args .p) (c .before .before .args .found)
+    (sym (asked (c .before)) ∙ c .if1 .taken)
+
+ballot-fits-requires : tie.Need-ballot-fits-requires
+ballot-fits-requires c κs = search needs
 
 add-least : tie.Need-add-least
 add-least c = omega (arith, at c)
@@ -52,28 +66,37 @@ add-least-2 c = omega (arith, at c)
 add-least-3 : tie.Need-add-least-3
 add-least-3 c = omega (arith, at c)
 
+ballot-fits-requires-2 : tie.Need-ballot-fits-requires-2
+ballot-fits-requires-2 c κs = search needs
+
 returns : tie.Need-returns
 unfolding nextOwn leastAbove
-returns c = simp (c .before .if1 .taken, le-leb _ _ (c .if2 .taken))
+returns c =
+    let within = simp (c .before .ballot-fits2 .ensures) at (c .if2 .taken) in
+    simp (sym (asked (c .before .before .before)) ∙ c .before .before .if1 .taken, within)
 
 returns-2 : tie.Need-returns-2
 unfolding nextOwn leastAbove
-returns-2 c = simp (c .before .if1 .taken, lt-leb _ _ (c .if2 .left))
+returns-2 c =
+    let within = simp (c .before .ballot-fits2 .ensures) at (c .if2 .left) in
+    simp (sym (asked (c .before .before .before)) ∙ c .before .before .if1 .taken, within)
 
 returns-3 : tie.Need-returns-3
 unfolding nextOwn leastAbove
-returns-3 c = simp (c .if1 .left)
+returns-3 c = simp (sym (asked (c .before)) ∙ c .if1 .left)
 
 pub next-own-spec : {M : Type 1} → statement M
 next-own-spec =
     tie.close
     (tie.spec
+    ballot-fits-requires
     add-least
     rem-least
     sub-least
     rem-least-2
     add-least-2
     add-least-3
+    ballot-fits-requires-2
     returns
     returns-2
     returns-3)

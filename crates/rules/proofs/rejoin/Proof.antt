@@ -1,13 +1,7 @@
--- cell that they were gathered in.
+-- `rules::rejoin` meets its contract: the drives recalled are judged as the set that was gathered in one cell.
 use borrow.Author.Needs.{needs}
 use Rattle.rules.proofs.rejoin.Statement.{statement}
 use Rattle.rules.proofs.rejoin.Tie as tie
-use Rattle.rules.proofs.rejoin.Reads as reads
-use Rattle.rules.proofs.rejoin.Lts as lts
-use Rattle.ballot.proofs.is_own.Reads as is-own-reads
-use Rattle.quorum.proofs.is_majority.Reads as is-majority-reads
-use Rattle.rules.proofs.drives.recalled.Reads as recalled-reads
-use Rattle.state.proofs.Server.cleared.Reads as cleared-reads
 use mathlib.Core.Path.{_∙_, sym}
 use borrow.Author.Tests.{lt-ltb, le-ltb, eq-eqb, ne-eqb, not-true, not-false}
 use Rattle.rules.proofs.Judged.{judged}
@@ -65,23 +59,27 @@ returns-4 c =
     let e = judged (at-args .drives) (recalledOn (at-args .v) (at-args .p)) _ _ (at-recalled .ensures) (at-is-majority .ensures) in
     simp (sym (at-is-own .ensures) ∙ not-false _ (at-if1 .left), eq-eqb _ _ (at-if2 .left), sym e ∙ not-false _ (at-if3 .left), le-ltb _ _ (at-if4 .taken))
 
+with-own-requires : tie.Need-with-own-requires
+with-own-requires c κs = search needs
+
 cleared-requires : tie.Need-cleared-requires
 cleared-requires c κs = search needs
 
 returns-5 : tie.Need-returns-5
 unfolding must rejoinRule rejoining
 returns-5 c =
-    let at-args = c .before .before .before .before .before .before .before .before .before .before .args in
-    let at-recalled = c .before .before .before .before .before .recalled in
-    let at-is-majority = c .before .before .before .before .is-majority in
-    let at-is-own = c .before .before .before .before .before .before .before .before .before .is-own in
-    let at-if1 = c .before .before .before .before .before .before .before .before .if1 in
-    let at-if2 = c .before .before .before .before .before .before .if2 in
-    let at-if3 = c .before .before .before .if3 in
-    let at-if4 = c .before .if4 in
+    let at-args = c .before .before .before .before .before .before .before .before .before .before .before .args in
+    let at-recalled = c .before .before .before .before .before .before .recalled in
+    let at-is-majority = c .before .before .before .before .before .is-majority in
+    let at-is-own = c .before .before .before .before .before .before .before .before .before .before .is-own in
+    let at-if1 = c .before .before .before .before .before .before .before .before .before .if1 in
+    let at-if2 = c .before .before .before .before .before .before .before .if2 in
+    let at-if3 = c .before .before .before .before .if3 in
+    let at-if4 = c .before .before .if4 in
+    let at-with-own = c .before .with-own in
     let at-cleared = c .cleared in
     let e = judged (at-args .drives) (recalledOn (at-args .v) (at-args .p)) _ _ (at-recalled .ensures) (at-is-majority .ensures) in
-    simp (sym (at-is-own .ensures) ∙ not-false _ (at-if1 .left), eq-eqb _ _ (at-if2 .left), sym e ∙ not-false _ (at-if3 .left), lt-ltb _ _ (at-if4 .left), at-cleared .ensures)
+    simp (sym (at-is-own .ensures) ∙ not-false _ (at-if1 .left), eq-eqb _ _ (at-if2 .left), sym e ∙ not-false _ (at-if3 .left), lt-ltb _ _ (at-if4 .left), at-cleared .ensures, at-with-own .ensures)
 
 pub rejoin-spec : {M : Type 1} → statement M
 rejoin-spec =
@@ -94,5 +92,6 @@ rejoin-spec =
     is-majority-requires
     returns-3
     returns-4
+    with-own-requires
     cleared-requires
     returns-5)
