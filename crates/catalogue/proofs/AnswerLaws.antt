@@ -14,6 +14,7 @@ use Rattle.layout.specs.Cells.{sizesOf}
 use Rattle.range.specs.Range.{inRange}
 use Rattle.catalogue.specs.Fold.{pieces, start}
 use Rattle.catalogue.specs.Outputs.{outputsOf}
+use Rattle.catalogue.specs.Listing.{catalogueRefusal, takenOf, skippedOf}
 use Rattle.catalogue.specs.Call.{entriesOf, catalogueOf, catalogueCells}
 use Rattle.catalogue.specs.declared.Listing.{Listing}
 use Rattle.catalogue.specs.declared.Listing.the-variants.{Counted, Refused}
@@ -129,8 +130,36 @@ module _ (limits room : List ℕ) (server : ℕ) (out : List ℕ) where
       (λ e. is-not-64 (eqb-false (length out) pieces e))
 
   -- the same from an answer in hand
-  pub accepted-says : (k n : ℕ) → catalogueOf limits room server out ≡ Counted k n → Accepted k n
-  accepted-says k n e = subst Says e says
+  counted-says : (k n : ℕ) → catalogueOf limits room server out ≡ Counted k n → Accepted k n
+  counted-says k n e = subst Says e says
 
-  pub refused-says : (n : ℕ) → catalogueOf limits room server out ≡ Refused n → Lowest n
-  refused-says n e = subst Says e says
+  positive : (n : ℕ) → Fault n → 1 ≤ n
+  positive _ (not-64 k) = omega arith
+  positive _ (no-room k) = omega arith
+  positive _ (beyond k) = omega arith
+
+  -- no refusal has the number 0, so that 0 says that the call is accepted
+  is-counted : (l : Listing) → Says l → catalogueRefusal l ≡ 0 → l ≡ Counted (takenOf l) (skippedOf l)
+  is-counted (Counted k n) s e = refl
+  is-counted (Refused n) s e = let p = positive n (s .fault) in absurd (omega arith)
+
+  pub accepted-is
+      : catalogueRefusal (catalogueOf limits room server out) ≡ 0
+      → catalogueOf limits room server out
+      ≡ Counted (takenOf (catalogueOf limits room server out)) (skippedOf (catalogueOf limits room server out))
+  accepted-is = is-counted (catalogueOf limits room server out) says
+
+  pub accepted-says
+      : catalogueRefusal (catalogueOf limits room server out) ≡ 0
+      → Accepted (takenOf (catalogueOf limits room server out)) (skippedOf (catalogueOf limits room server out))
+  accepted-says e = counted-says _ _ (accepted-is e)
+
+  refused : (l : Listing) → Says l → (catalogueRefusal l ≡ 0 → ⊥) → Lowest (catalogueRefusal l)
+  refused (Counted k n) s e = absurd (e refl)
+  refused (Refused n) s e = s
+
+  -- a refusal is the lowest that applies, and leaves every cell
+  pub refused-says
+      : (catalogueRefusal (catalogueOf limits room server out) ≡ 0 → ⊥)
+      → Lowest (catalogueRefusal (catalogueOf limits room server out))
+  refused-says = refused (catalogueOf limits room server out) says

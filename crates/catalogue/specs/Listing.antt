@@ -4,9 +4,9 @@ use Rattle.catalogue.specs.declared.Listing.{Listing}
 use Rattle.catalogue.specs.declared.Listing.the-variants.{Counted, Refused}
 
 -- the number of a refusal; 0 where the call is accepted
-abbrev pub refusalOf : Listing → ℕ
-refusalOf (Counted k n) = 0
-refusalOf (Refused n) = n
+abbrev pub catalogueRefusal : Listing → ℕ
+catalogueRefusal (Counted k n) = 0
+catalogueRefusal (Refused n) = n
 
 -- "taken (k)"; a refusal carries only its number
 abbrev pub takenOf : Listing → ℕ

@@ -5,7 +5,7 @@ ghost use lib.ListN.{length, replicate};
 ghost use Rattle.command.specs.Command.{pieceOf, cabinetLimits};
 ghost use Rattle.catalogue.specs.Entry.{applies, changed};
 ghost use Rattle.catalogue.specs.Fold.{pieces, cellsAfter, skippedBy};
-ghost use Rattle.catalogue.specs.Listing.{refusalOf, takenOf, skippedOf};
+ghost use Rattle.catalogue.specs.Listing.{catalogueRefusal, takenOf, skippedOf};
 ghost use Rattle.catalogue.specs.Call.{Listable, entriesOf, counted, catalogueOf, catalogueCells};
 use state::Sizes;
 
@@ -27,7 +27,7 @@ pub enum Listing {
 impl Listing {
     // 01's number of a refusal; 0 where the call was accepted.
     pub fn refusal(self) -> u32
-        ensures { λ r. ⌜ r ≡ refusalOf self ⌝ }
+        ensures { λ r. ⌜ r ≡ catalogueRefusal self ⌝ }
     {
         match self {
             Listing::Counted {

@@ -1,12 +1,12 @@
 -- The answer of a step on the cells is that of the ruling at the slot that it concerns; at any other slot it makes no
 -- move, and a refusal makes none anywhere.
-use Prim.Native.Nat.{ℕ}
+use Prim.Native.Nat.{ℕ, _<_}
 use mathlib.Core.Path.{_≡_, refl, _∙_, sym, ap}
 use mathlib.Core.Bool.{Bool, true, false, _&&_, true≢false}
 use mathlib.Core.List.{List}
 use lib.Dec.{eqb}
 use borrow.Author.Tests.{eqb-true}
-use Rattle.lemmas.proofs.Tests.{none-right}
+use Rattle.lemmas.proofs.Tests.{and-left, none-right}
 use Rattle.state.specs.declared.Answer.{Answer}
 use Rattle.state.specs.declared.Answer.the-variants as answer
 use Rattle.state.specs.declared.Sizes.{Sizes}
@@ -14,14 +14,16 @@ use Rattle.state.specs.declared.Step.{Step}
 use Rattle.state.specs.declared.Step.the-variants.{Offer, Recall, Rejoin, Bid, Write, Read, Finish, Fail, DriveOff, DriveOn}
 use Rattle.synod.specs.declared.Ruling.{Ruling}
 use Rattle.synod.specs.declared.Ruling.the-variants as ruling
+use Rattle.synod.specs.Arguments.{placesFit}
 use Rattle.synod.specs.Rules.{writeRule}
 use Rattle.synod.specs.Slot as slot
 use Rattle.synod.specs.Slot.{configOf}
+use Rattle.synod.proofs.Places.{placed}
 use Rattle.synod.proofs.Rulings.{write-cases}
 use Rattle.layout.specs.Cells.{offOf, serverOf}
 use Rattle.room.specs.Judge.{recording, blocking, ruled, answerOf}
 use Rattle.step_laws.specs.Slots.{seen, concerns}
-use Rattle.history.specs.Run.{Move, Offers, Chooses, Rests, pickMove, accepted, committed, moveOf}
+use Rattle.history.specs.Run.{Move, Offers, Chooses, Fails, Rests, pickMove, accepted, committed, choosing, moveOf, WhenChooses}
 use Rattle.history.proofs.StepMoves.{answerBy}
 
 pub refused-rests : (t : ℕ) (st : Step) (n : ℕ) → moveOf t st (answer.Refused n) ≡ Rests
@@ -53,6 +55,50 @@ unconcerned t (Finish p s) a e = elsewhere (committed a) (eqb s t) (Chooses p) e
 unconcerned t (Fail p) a e = absurd (true≢false e)
 unconcerned t (DriveOff d) a e = refl
 unconcerned t (DriveOn d) a e = refl
+
+-- what is claimed of a committed answer may be weakened
+pub chooses-map : (m : Move) (A B : ℕ → Type 0) → ((p : ℕ) → A p → B p) → WhenChooses m A → WhenChooses m B
+chooses-map (Offers p v) A B f a = tt
+chooses-map (Chooses p) A B f a = f p a
+chooses-map (Fails p) A B f a = tt
+chooses-map Rests A B f a = tt
+
+-- a test before a move: what holds of the server of a Choose where the test holds
+pub picks : (b : Bool) (p : ℕ) (A : ℕ → Type 0) → (b ≡ true → A p) → WhenChooses (pickMove b (Chooses p) Rests) A
+picks true p A a = a refl
+picks false p A a = tt
+
+offers-none : (b : Bool) (p v : ℕ) (A : ℕ → Type 0) → WhenChooses (pickMove b (Offers p v) Rests) A
+offers-none true p v A = tt
+offers-none false p v A = tt
+
+fails-none : (b : Bool) (p : ℕ) (A : ℕ → Type 0) → WhenChooses (pickMove b (Fails p) Rests) A
+fails-none true p A = tt
+fails-none false p A = tt
+
+-- the server of a Choose: its answer committed, and it is in every room that the step's places fit
+pub record Chooser (st : Step) (a : Answer) (p : ℕ) : Type 0 where
+  pub by : committed a ≡ true
+  pub within : (z : Sizes) → placesFit z st ≡ true → p < z .servers
+
+choosers
+    : (t s p : ℕ) (st : Step) (a : Answer) → ((z : Sizes) → placesFit z st ≡ true → p < z .servers)
+    → WhenChooses (choosing t s p a) (Chooser st a)
+choosers t s p st a h =
+    picks (committed a && eqb s t) p (Chooser st a) (λ e. record { by = and-left (committed a) (eqb s t) e; within = h })
+
+pub chooser : (t : ℕ) (st : Step) (a : Answer) → WhenChooses (moveOf t st a) (Chooser st a)
+unfolding moveOf
+chooser t (Offer p s v) a = offers-none (accepted a && eqb s t) p v _
+chooser t (Recall p s d) a = choosers t s p (Recall p s d) a (λ z h. placed z (Recall p s d) h .server)
+chooser t (Rejoin p s b) a = choosers t s p (Rejoin p s b) a (λ z h. placed z (Rejoin p s b) h .server)
+chooser t (Bid p s b) a = choosers t s p (Bid p s b) a (λ z h. placed z (Bid p s b) h .server)
+chooser t (Write p s d) a = choosers t s p (Write p s d) a (λ z h. placed z (Write p s d) h .server)
+chooser t (Read p s d q) a = choosers t s p (Read p s d q) a (λ z h. placed z (Read p s d q) h .server)
+chooser t (Finish p s) a = choosers t s p (Finish p s) a (λ z h. placed z (Finish p s) h .server)
+chooser t (Fail p) a = fails-none (accepted a) p _
+chooser t (DriveOff d) a = tt
+chooser t (DriveOn d) a = tt
 
 recorded-answer : (s p : ℕ) (x : Ruling) → answerOf (recording s p x) ≡ answerBy x
 recorded-answer s p (ruling.Refused n) = refl

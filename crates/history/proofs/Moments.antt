@@ -27,10 +27,10 @@ use Rattle.step_laws.specs.Slots.{seen, concerns, afterAt}
 use Rattle.step_laws.proofs.StoresKeep.{Whole}
 use Rattle.step_laws.proofs.StepKeeps.{ruled-kept}
 use Rattle.step_laws.proofs.SlotTie.{slot-tie}
-use Rattle.history.specs.Run.{Rests, moveOf}
+use Rattle.history.specs.Run.{Rests, moveOf, WhenChooses}
 use Rattle.history.proofs.SlotMoves.{rests}
 use Rattle.history.proofs.StepMoves.{answerBy, MovesBy, concerned}
-use Rattle.history.proofs.Answers.{refused-rests, unconcerned, answer-tie}
+use Rattle.history.proofs.Answers.{refused-rests, unconcerned, chooses-map, chooser, answer-tie}
 
 pub record Moment (limits : List ℕ) (z : Sizes) (cells : List ℕ) (g : ℕ → Ghost) (σ : ℕ → Slot) : Type 0 where
   pub whole : Whole limits z cells
@@ -43,6 +43,7 @@ pub record Next (limits : List ℕ) (z : Sizes) (g : ℕ → Ghost) (σ : ℕ �
   pub slots : ℕ → Slot
   pub moment : Moment limits z cells ghosts slots
   pub moves : (t : ℕ) → t < z .slots → MovesBy t (g t) (σ t) st a (ghosts t) (slots t)
+  pub within : (t : ℕ) → WhenChooses (moveOf t st a) (λ p. p < z .servers)
 
 abbrev pickGhost : Bool → Ghost → Ghost → Ghost
 pickGhost true a b = a
@@ -115,6 +116,9 @@ module _ (limits : List ℕ) (z : Sizes) (cells : List ℕ) (g : ℕ → Ghost) 
               holds = holds-after st h;
             };
         moves = moves-after st h;
+        within =
+            λ t.
+            chooses-map (moveOf t st (answerOf (ruled z cells st))) _ _ (λ p c. c .within z h) (chooser t st (answerOf (ruled z cells st)));
       }
 
   refused-next : (st : Step) (n : ℕ) → Next limits z g σ st (answer.Refused n) cells
@@ -124,6 +128,7 @@ module _ (limits : List ℕ) (z : Sizes) (cells : List ℕ) (g : ℕ → Ghost) 
         slots = σ;
         moment = now;
         moves = λ t l. resting t (g t) (σ t) st (answer.Refused n) (refused-rests t st n);
+        within = λ t. rw (refused-rests t st n) tt;
       }
 
 -- a step leads from a moment to the next

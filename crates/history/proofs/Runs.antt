@@ -4,20 +4,24 @@ use Prim.Native.Nat.{ℕ, _<_}
 use mathlib.Core.Path.{_≡_, _∙_, sym, ap, subst}
 use mathlib.Core.Bool.{true}
 use mathlib.Core.List.{List, [], _∷_}
+use Rattle.state.specs.declared.Answer.{Answer}
 use Rattle.state.specs.declared.Sizes.{Sizes}
 use Rattle.state.specs.declared.Step.{Step}
+use Rattle.state.specs.Answers.{numberOf}
 use Rattle.state.specs.Server.{offerOf, outputOf}
 use Rattle.synod.specs.Slot.{Slot, Ghost}
 use Rattle.synod.proofs.Agreement.{agree, output-committed}
+use Rattle.synod.proofs.Outputs.{outputs}
 use Rattle.layout.specs.Cells.{sizesOf, serverOf}
 use Rattle.range.specs.Range.{inRange}
 use Rattle.range.proofs.Laws.{says-range}
 use Rattle.room.specs.Judge.{limitsOf}
 use Rattle.room.specs.Step.{answered, stepped}
-use Rattle.history.specs.Run.{history, Always, orElse, outputBy, firstOutput, Move, Offers, Chooses, Fails, Rests, moveOf, WhenChooses, OfferedEarlier, AllCommit}
+use Rattle.history.specs.Run.{history, Always, orElse, outputBy, firstOutput, Move, Offers, Chooses, Fails, Rests, moveOf, WhenChooses, outputIn, OfferedEarlier, AllCommit, CommitsOutput}
 use Rattle.history.specs.Machine.{Equal, Follows, ends, goes}
 use Rattle.history.proofs.Firsts.{or-some, or-assoc, firstCommand, first-of}
 use Rattle.history.proofs.SlotMoves.{machineOf}
+use Rattle.history.proofs.Answers.{chooses-map}
 use Rattle.history.proofs.Moments.{Moment, next}
 
 module _ (z : Sizes) where
@@ -50,13 +54,6 @@ module _ (z : Sizes) where
             (offered-earlier (stepped cells st) (n .ghosts) (n .slots) (n .moment) sts t h),
       )
 
-  -- what is claimed of a committed answer may be weakened
-  chooses-map : (m : Move) (A B : Type 0) → (A → B) → WhenChooses m A → WhenChooses m B
-  chooses-map (Offers p v) A B f a = tt
-  chooses-map (Chooses p) A B f a = f a
-  chooses-map (Fails p) A B f a = tt
-  chooses-map Rests A B f a = tt
-
   pub all-commit
       : (cells : List ℕ) (g : ℕ → Ghost) (σ : ℕ → Slot) → Moment (limitsOf cells) z cells g σ → (steps : List Step) (t : ℕ) → t < z .slots
       → (v : ℕ) → v ≡ orElse (firstCommand (g t .commits)) (firstOutput t (history cells steps)) → AllCommit t v (history cells steps)
@@ -69,11 +66,33 @@ module _ (z : Sizes) where
       let e2 : v ≡ orElse (firstCommand (n .ghosts t .commits)) rest =
       e ∙ sym (or-assoc (firstCommand (g t .commits)) out rest) ∙ ap (λ (x : ℕ). orElse x rest) (sym (n .moves t h .first)) in (
         chooses-map (moveOf t st (answered cells st)) _ _
-            (λ a.
+            (λ p a.
             let is : v ≡ out = e2 ∙ ap (λ (x : ℕ). orElse x rest) (sym (a .0)) ∙ or-some out rest (a .1) in
             (sym is, λ k. a .1 (sym is ∙ k)))
             (n .moves t h .agrees),
         all-commit (stepped cells st) (n .ghosts) (n .slots) (n .moment) sts t h v e2,
+      )
+
+  -- after a step that chooses, the room's output is the answer's command
+  output-answered
+      : (cells : List ℕ) (g : ℕ → Ghost) (σ : ℕ → Slot) → Moment (limitsOf cells) z cells g σ → (t : ℕ) → t < z .slots
+      → (m : Move) (a : Answer) → WhenChooses m (λ p. p < z .servers) → WhenChooses m (λ p. outputs (σ t) p ≡ outputIn m a)
+      → WhenChooses m (λ p. outputOf (serverOf z cells t p) ≡ numberOf a)
+  output-answered cells g σ now t h (Offers p v) a l e = tt
+  output-answered cells g σ now t h (Chooses p) a l e = sym (ap outputOf (now .alike t h p l .own)) ∙ e
+  output-answered cells g σ now t h (Fails p) a l e = tt
+  output-answered cells g σ now t h Rests a l e = tt
+
+  pub commits-output
+      : (cells : List ℕ) (g : ℕ → Ghost) (σ : ℕ → Slot) → Moment (limitsOf cells) z cells g σ → (steps : List Step)
+      → (t : ℕ) → t < z .slots → CommitsOutput z t cells steps
+  unfolding CommitsOutput
+  commits-output cells g σ now [] t h = tt
+  commits-output cells g σ now (st ∷ sts) t h =
+      let n = next z cells g σ now st in (
+        output-answered (stepped cells st) (n .ghosts) (n .slots) (n .moment) t h (moveOf t st (answered cells st))
+            (answered cells st) (n .within t) (n .moves t h .shows),
+        commits-output (stepped cells st) (n .ghosts) (n .slots) (n .moment) sts t h,
       )
 
   -- a room of a run, whose outputs are those of the list first

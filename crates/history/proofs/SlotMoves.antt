@@ -11,6 +11,7 @@ use Rattle.synod.proofs.Agreement.{agree, valid}
 use Rattle.synod.proofs.Ghosts.{tried}
 use Rattle.synod.proofs.Invariant.{Invariant}
 use Rattle.synod.proofs.Outputs.{outputs, offers, told}
+use Rattle.synod.proofs.Update.{updated-at}
 use Rattle.history.specs.Run.{Move, Chooses, Rests, pickMove, committed, outputIn, orElse, given, WhenChooses}
 use Rattle.history.specs.Machine.{Machine, Makes}
 use Rattle.history.proofs.Firsts.{or-some, or-zero, firstCommand, first-of}
@@ -24,12 +25,20 @@ pub record Moves (g : Ghost) (σ : Slot) (m : Move) (out : ℕ) (h : Ghost) (τ 
   pub makes : Makes m (machineOf g σ) (machineOf h τ)
   pub first : firstCommand (h .commits) ≡ orElse (firstCommand (g .commits)) out
   pub hears : h .offered ≡ given m (g .offered)
-  pub early : WhenChooses m (List·Memᴰ out (g .offered))
-  pub agrees : WhenChooses m ((out ≡ firstCommand (h .commits)) × (out ≡ 0 → ⊥))
+  pub early : WhenChooses m (λ p. List·Memᴰ out (g .offered))
+  pub agrees : WhenChooses m (λ p. (out ≡ firstCommand (h .commits)) × (out ≡ 0 → ⊥))
+  pub shows : WhenChooses m (λ p. outputs τ p ≡ out)
 
 pub rests : (g : Ghost) (σ : Slot) → Moves g σ Rests 0 g σ
 rests g σ =
-    record { makes = refl; first = sym (or-zero (firstCommand (g .commits))); hears = refl; early = tt; agrees = tt }
+    record {
+      makes = refl;
+      first = sym (or-zero (firstCommand (g .commits)));
+      hears = refl;
+      early = tt;
+      agrees = tt;
+      shows = tt;
+    }
 
 same-machine
     : (g : Ghost) (σ τ : Slot) → ((q : ℕ) → outputs τ q ≡ outputs σ q) → ((q : ℕ) → offers τ q ≡ offers σ q)
@@ -55,6 +64,7 @@ quietly g h σ τ a b outs offs =
       hears = a;
       early = tt;
       agrees = tt;
+      shows = tt;
     }
 
 -- a commit is a Choose: the server had no output, and the command is the one chosen before or a member of given
@@ -82,6 +92,7 @@ commits c g σ τ p b y inv none outs offs =
       hears = refl;
       early = this .1;
       agrees = (sym now, this .0);
+      shows = outs p ∙ updated-at (outputs σ) p y;
     }
 
 -- a step whose ruling is accepted with the answer a, by server p

@@ -121,6 +121,7 @@ module _ (c : Config) (off : ℕ) (g : Ghost) (σ : Slot) where
         hears = refl;
         early = tt;
         agrees = tt;
+        shows = tt;
       }
 
   failed
@@ -140,6 +141,7 @@ module _ (c : Config) (off : ℕ) (g : Ghost) (σ : Slot) where
         hears = refl;
         early = tt;
         agrees = tt;
+        shows = tt;
       }
 
 module _ (z : Sizes) (fits : Fits (configOf z)) (off : ℕ) (g : Ghost) (σ : Slot) (inv : Invariant (configOf z) g σ) where

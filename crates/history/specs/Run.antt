@@ -1,15 +1,17 @@
 -- A run is its history: the list of steps with their answers (01, "The one-value machine"). What 01 reads off a run is
--- read off this list, never off the cells.
+-- read off this list, never off the cells; what it says of outputs is compared with them at the end.
 use Prim.Native.Nat.{ℕ}
 use mathlib.Core.Bool.{Bool, true, false, not, _&&_}
 use mathlib.Core.List.{List, [], _∷_, List·Memᴰ}
 use mathlib.Core.Path.{_≡_}
 use lib.Dec.{eqb}
 use Rattle.state.specs.declared.Answer.{Answer}
+use Rattle.state.specs.declared.Sizes.{Sizes}
 use Rattle.state.specs.declared.Step.{Step}
 use Rattle.state.specs.declared.Step.the-variants.{Offer, Recall, Rejoin, Bid, Write, Read, Finish, Fail, DriveOff, DriveOn}
 use Rattle.state.specs.Answers.{codeOf, numberOf}
-use Rattle.state.specs.Server.{pickNumber}
+use Rattle.state.specs.Server.{pickNumber, outputOf}
+use Rattle.layout.specs.Cells.{serverOf}
 use Rattle.room.specs.Step.{answered, stepped}
 
 pub record Event : Type 0 where
@@ -53,9 +55,9 @@ pickMove false a b = b
 abbrev pub choosing : ℕ → ℕ → ℕ → Answer → Move
 choosing t s p a = pickMove (committed a && eqb s t) (Chooses p) Rests
 
--- A Choose is read off the answer, not off the kind: today only Finish commits. 01:
 -- "Accepted Offer and Fail steps make that move (Offer in the slot named, Fail in every slot), a committed Finish makes
--- Choose(p) in its slot; any other step, and any refusal, none"
+-- Choose(p) in its slot; any other step, and any refusal, none". A Choose is read off the answer and not off the kind:
+-- only Finish commits (`only-finish` in step_laws), so that this is the same (`choose-is-finish` in proofs/Chooses).
 unfoldable pub moveOf : ℕ → Step → Answer → Move
 moveOf t (Offer p s v) a = pickMove (accepted a && eqb s t) (Offers p v) Rests
 moveOf t (Recall p s d) a = choosing t s p a
@@ -94,10 +96,10 @@ given (Chooses p) l = l
 given (Fails p) l = l
 given Rests l = l
 
--- a claim about a committed answer: nothing is claimed of any other
-abbrev pub WhenChooses : Move → Type 0 → Type 0
+-- a claim about the server of a committed answer: nothing is claimed of any other answer
+abbrev pub WhenChooses : Move → (ℕ → Type 0) → Type 0
 WhenChooses (Offers p v) A = Unit {0}
-WhenChooses (Chooses p) A = A
+WhenChooses (Chooses p) A = A p
 WhenChooses (Fails p) A = Unit {0}
 WhenChooses Rests A = Unit {0}
 
@@ -106,11 +108,19 @@ WhenChooses Rests A = Unit {0}
 unfoldable pub OfferedEarlier : ℕ → List ℕ → List Event → Type 0
 OfferedEarlier t seen [] = Unit {0}
 OfferedEarlier t seen (e ∷ h) =
-    WhenChooses (moveOf t (e .step) (e .answer)) (List·Memᴰ (outputBy t e) seen)
+    WhenChooses (moveOf t (e .step) (e .answer)) (λ p. List·Memᴰ (outputBy t e) seen)
     × OfferedEarlier t (given (moveOf t (e .step) (e .answer)) seen) h
 
 -- every committed answer in the slot is with the command v, which is not 0
 unfoldable pub AllCommit : ℕ → ℕ → List Event → Type 0
 AllCommit t v [] = Unit {0}
 AllCommit t v (e ∷ h) =
-    WhenChooses (moveOf t (e .step) (e .answer)) ((outputBy t e ≡ v) × (v ≡ 0 → ⊥)) × AllCommit t v h
+    WhenChooses (moveOf t (e .step) (e .answer)) (λ p. (outputBy t e ≡ v) × (v ≡ 0 → ⊥)) × AllCommit t v h
+
+-- right after every committed answer in the slot, its server's output there is the answer's command
+unfoldable pub CommitsOutput : Sizes → ℕ → List ℕ → List Step → Type 0
+CommitsOutput z t cells [] = Unit {0}
+CommitsOutput z t cells (st ∷ sts) =
+    WhenChooses (moveOf t st (answered cells st))
+    (λ p. outputOf (serverOf z (stepped cells st) t p) ≡ numberOf (answered cells st))
+    × CommitsOutput z t (stepped cells st) sts

@@ -9,7 +9,7 @@ use borrow.Author.Tests.{ltb-false, leb-false}
 use lib.Dec.{ltb, leb}
 use lib.ListN.{length, getD}
 use Rattle.state.specs.declared.Step.{Step}
-use Rattle.record.specs.Answers.{readNumber}
+use Rattle.record.specs.Answers.{readRefusal}
 use Rattle.record.specs.Fields.{maskOf, stepOf, withValues}
 use Rattle.record.specs.Map.{widths, recordLength, unknown, malformed, asksMore, zeroAmong}
 use Rattle.record.specs.Read.{readingOf, refuse, valuesAt}
@@ -74,13 +74,13 @@ used-bounds bytes {step} {used} read =
 abbrev pub ReadNumber : ℕ → Type 0
 ReadNumber n = (n ≡ 0) ⊎ ((n ≡ 14) ⊎ (n ≡ 15))
 
-checked : (b : Bool) (number : ℕ) (rest : Reading) → ReadNumber number → ReadNumber (readNumber rest)
-    → ReadNumber (readNumber (refuse b number rest))
+checked : (b : Bool) (number : ℕ) (rest : Reading) → ReadNumber number → ReadNumber (readRefusal rest)
+    → ReadNumber (readRefusal (refuse b number rest))
 unfolding refuse
 checked true number rest here there = here
 checked false number rest here there = there
 
-pub read-number : (bytes : List ℕ) → ReadNumber (readNumber (readingOf bytes))
+pub read-number : (bytes : List ℕ) → ReadNumber (readRefusal (readingOf bytes))
 unfolding readingOf
 read-number bytes =
     let cut-short : ReadNumber 14 = inr (inl refl) in

@@ -9,12 +9,13 @@ use lib.Dec.{leb}
 use lib.ListN.{length, getD, take, drop, length-append}
 use Rattle.lemmas.proofs.Tests.{by-test}
 use Rattle.state.specs.declared.Step.{Step}
+use Rattle.record.specs.Answers.{Reads, writeRefusal, writeLength}
 use Rattle.record.specs.Fields.{maskOf, fieldsOf, stepOf, valuesOf, withValues, StepFits}
 use Rattle.record.specs.Map.{widths, mapOf, recordLength, fieldsLength, unknown, malformed, asksMore, zeroAmong}
 use Rattle.record.specs.Read.{readingOf, valuesAt, Bytes}
 use Rattle.record.specs.Write.{recordOf, recordOfFields, bytesOf, fieldBytes, writingOf, writtenOf}
-use Rattle.record.specs.declared.Reading.the-variants.{Decoded}
-use Rattle.record.specs.declared.Writing.the-variants.{Encoded}
+use Rattle.record.specs.declared.Reading.the-variants as reading
+use Rattle.record.specs.declared.Reading.{Reading}
 use Rattle.record.specs.declared.fields.Fields.{Fields}
 use Rattle.record.proofs.Accepted.{accepted, Used, used-bounds}
 use Rattle.record.proofs.Checks.{next}
@@ -25,7 +26,7 @@ use Rattle.record.proofs.Steps.{step-fields, kind-known, step-keeps, st
 -- fields that fit, of a known kind, with 0 in every field that the kind lacks
 read-fields : (f : Fields) (rest : List ℕ)
     → Fit widths (valuesOf f) → Keeps (maskOf (f .kind)) (valuesOf f) → unknown (f .kind) ≡ false
-    → readingOf (recordOfFields f ++ rest) ≡ Decoded (stepOf f) (length (recordOfFields f))
+    → readingOf (recordOfFields f ++ rest) ≡ reading.Decoded (stepOf f) (length (recordOfFields f))
 unfolding readingOf recordOfFields bytesOf malformed recordLength
 read-fields f rest fit keeps known =
     let vs = valuesOf f in
@@ -45,15 +46,27 @@ read-fields f rest fit keeps known =
     (next 15 fair
     (next 14 (le-ltb (length s) (recordLength m) enough)
     (next 15 (ap (zeroAmong m) values ∙ none-zero m vs marks)
-    (ap₂ Decoded (ap (λ (l : List ℕ). stepOf (withValues (f .kind) l)) values) (omega arith)))))))
+    (ap₂ reading.Decoded (ap (λ (l : List ℕ). stepOf (withValues (f .kind) l)) values) (omega arith)))))))
+
+back : (step : Step) (rest : List ℕ) → StepFits step
+    → readingOf (recordOf step ++ rest) ≡ reading.Decoded step (length (recordOf step))
+unfolding recordOf
+back step rest fits =
+    read-fields (fieldsOf step) rest (step-fit fits) (step-keeps step) (kind-known step)
+    ∙ ap (λ (st : Step). reading.Decoded st (length (recordOfFields (fieldsOf step)))) (step-fields step)
+
+-- an answer as its case, and by what it says
+is-reads : {r : Reading} {step : Step} {used : ℕ} → r ≡ reading.Decoded step used → Reads r step used
+is-reads {step = step} {used} e = subst (λ (x : Reading). Reads x step used) (sym e) (refl, refl)
+
+reads-is : (r : Reading) {step : Step} {used : ℕ} → Reads r step used → r ≡ reading.Decoded step used
+reads-is (reading.Decoded step used) h = ap₂ reading.Decoded (h .0) (h .1)
+reads-is (reading.Refused number) h = absurd h
 
 -- What is written reads back as the step with the length used, whatever bytes follow.
 pub read-back : (step : Step) (rest : List ℕ) → StepFits step
-    → readingOf (recordOf step ++ rest) ≡ Decoded step (length (recordOf step))
-unfolding recordOf
-read-back step rest fits =
-    read-fields (fieldsOf step) rest (step-fit fits) (step-keeps step) (kind-known step)
-    ∙ ap (λ (st : Step). Decoded st (length (recordOfFields (fieldsOf step)))) (step-fields step)
+    → Reads (readingOf (recordOf step ++ rest)) step (length (recordOf step))
+read-back step rest fits = is-reads (back step rest fits)
 
 suc-two : (n : ℕ) → suc (suc n) ≡ 2 + n
 suc-two n = omega arith
@@ -66,9 +79,10 @@ pub record Rewritten (bytes : List ℕ) (step : Step) (used : ℕ) : Type 0 wher
 
 -- A record that is read is written again as the same bytes.
 pub written-again : (bytes : List ℕ) {step : Step} {used : ℕ} → Bytes bytes
-    → readingOf bytes ≡ Decoded step used → Rewritten bytes step used
+    → Reads (readingOf bytes) step used → Rewritten bytes step used
 unfolding recordOf recordOfFields bytesOf recordLength valuesAt
-written-again bytes {step} {used} b read =
+written-again bytes {step} {used} b answer =
+    let read = reads-is (readingOf bytes) answer in
     let h = accepted bytes read in
     let m = getD bytes 0 0 in
     let kind = getD bytes 1 0 in
@@ -106,15 +120,15 @@ written-again bytes {step} {used} b read =
 -- Two different steps never have the same record.
 pub one-step : (a b : Step) → StepFits a → StepFits b → recordOf a ≡ recordOf b → a ≡ b
 one-step a b fa fb same =
-    let ra = read-back a [] fa in
-    let rb = read-back b [] fb in
+    let ra = back a [] fa in
+    let rb = back b [] fb in
     cc
 
 -- No record is a proper beginning of another.
 pub no-beginning : (a b : Step) (more : List ℕ) → StepFits a → StepFits b → recordOf b ≡ recordOf a ++ more → more ≡ []
 no-beginning a b more fa fb e =
-    let ra = read-back a more fa in
-    let rb = read-back b [] fb in
+    let ra = back a more fa in
+    let rb = back b [] fb in
     let nil = append-nil (recordOf b) in
     let same : length (recordOf a) ≡ length (recordOf b) = cc in
     let long = length-append (recordOf a) more in
@@ -124,16 +138,17 @@ no-beginning a b more fa fb e =
     empty [] h = refl
     empty (x ∷ l) h = absurd (omega arith)
 
--- What a call of write leaves reads back, with the length that it answered.
-pub write-then-read : (step : Step) (buffer : List ℕ) {used : ℕ} → StepFits step
-    → writingOf step buffer ≡ Encoded used → readingOf (writtenOf step buffer) ≡ Decoded step used
+-- What a call of write leaves, where it is not refused, reads back with the length that it answered.
+pub write-then-read : (step : Step) (buffer : List ℕ) → StepFits step → writeRefusal (writingOf step buffer) ≡ 0
+    → Reads (readingOf (writtenOf step buffer)) step (writeLength (writingOf step buffer))
 unfolding writingOf writtenOf
-write-then-read step buffer {used} fits wrote =
+write-then-read step buffer fits wrote =
     by-test (leb (length (recordOf step)) (length buffer))
-    (λ e.
-    let same : length (recordOf step) ≡ used = cc in
-    rw e (read-back step (drop (length (recordOf step)) buffer) fits ∙ ap (Decoded step) same))
-    (λ e. cc)
+    (λ e. rw e (read-back step (drop (length (recordOf step)) buffer) fits))
+    (λ e. absurd (two (rw e at wrote)))
+  where
+    two : _≡_ {A = ℕ} 2 0 → ⊥
+    two h = omega arith
 
 -- A record takes at most eight bytes.
 pub record-most : (step : Step) → length (recordOf step) ≤ 8

@@ -8,7 +8,7 @@ use Rattle.state.specs.declared.Step.the-variants.{Offer, Recall, Rejoin, Bid, 
 use Rattle.state.specs.declared.Step.{Step}
 use Rattle.record.specs.declared.fields.Fields.{Fields}
 
--- "bit 0 server, 1 slot, 2 drive, 3 other, 4 number"
+-- the bits of the map: server, slot, drive, other, number
 abbrev pub server : ℕ
 server = 1
 

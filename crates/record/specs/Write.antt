@@ -37,7 +37,7 @@ abbrev pub pickWriting : Bool → Writing → Writing → Writing
 pickWriting true a b = a
 pickWriting false a b = b
 
--- "Write answers the length used"; "2 buffer length wrong (record write: too short)"
+-- "Write answers the length used"; 2 is "buffer length wrong (.. record write: too short)"
 unfoldable pub writingOf : Step → List ℕ → Writing
 writingOf step buffer =
     pickWriting (leb (length (recordOf step)) (length buffer)) (Encoded (length (recordOf step))) (Refused 2)

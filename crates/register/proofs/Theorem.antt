@@ -4,41 +4,26 @@ use mathlib.Core.Path.{_≡_, refl, _∙_, sym, ap, subst}
 use mathlib.Core.List.{List, [], _∷_}
 use native.Mathlib.Omega.{arith}
 use lib.ListN.{length, take, length-take}
-use Rattle.lemmas.proofs.Tests.{by-test}
 use Rattle.command.specs.Command.{cabinetLimits}
 use Rattle.state.specs.declared.Sizes.{Sizes}
 use Rattle.state.specs.declared.Step.{Step}
 use Rattle.synod.specs.Slot.{noGhost, blankSlot}
-use Rattle.layout.specs.Places.{sizesFit, Fit}
+use Rattle.layout.specs.Places.{Fit}
 use Rattle.layout.proofs.PlaceLaws.{fit-of}
-use Rattle.room.specs.declared.opening.Opening.the-variants.{Opened}
-use Rattle.room.specs.Open.{opening, openedBy, opened, openedCells}
+use Rattle.room.specs.Open.{openRefusal, opening, opened, openedCells}
 use Rattle.room.specs.Step.{stepped}
-use Rattle.room.proofs.OpenLaws.{opens-1}
+use Rattle.room.proofs.OpenLaws.{accepted}
 use Rattle.history.specs.Run.{history, Always, firstOutput}
 use Rattle.history.proofs.Opened.{opens}
-use Rattle.history.proofs.Runs.{follows, offered-earlier, all-commit, Shown, shown}
+use Rattle.history.proofs.Runs.{follows, offered-earlier, all-commit, commits-output, Shown, shown}
 use Rattle.catalogue.specs.Fold.{folded, start}
 use Rattle.catalogue.specs.Outputs.{outputAt, leading, outputsOf}
 use Rattle.catalogue.specs.Call.{entriesOf, counted}
+use Rattle.catalogue.specs.Listing.{catalogueRefusal, takenOf, skippedOf}
 use Rattle.catalogue.specs.declared.Listing.the-variants.{Counted}
 use Rattle.catalogue.proofs.OutputLaws.{leading-prefix}
 use Rattle.catalogue.proofs.CallLaws.{accepts}
 use Rattle.register.specs.OneHistory.{commandsOf, AllShow, OneHistory}
-
--- what an accepted open says
-opened-fit : (z : Sizes) (row : List ℕ) → opening z row ≡ Opened → Fit z
-opened-fit z row e =
-    by-test (sizesFit z)
-    (λ a. fit-of z a)
-    (λ a.
-    let b = opens-1 z row a .answers in
-    let c : _≡_ {A = ℕ} 0 1 = cc in
-    absurd (omega arith))
-
-opened-is : (z : Sizes) (row : List ℕ) → opening z row ≡ Opened → opened z row ≡ openedCells z
-unfolding opened
-opened-is z row e = ap (openedBy z row) e
 
 -- a room whose outputs are those of the run shows the run's first commands
 module _ (z : Sizes) (first : ℕ → ℕ) (room : List ℕ) (s : Shown z first room) where
@@ -56,13 +41,17 @@ module _ (z : Sizes) (first : ℕ → ℕ) (room : List ℕ) (s : Shown z first 
       let call = accepts cabinetLimits room p out exact (s .range) (subst (λ (y : Sizes). p < y .servers) (sym same) l) in
       let prefix = taken-prefix p l in
       let k = length (outputsOf z room p) in
+      let answer =
+      sym (call .0)
+      ∙ ap (λ (y : Sizes). counted y room p) same
+      ∙ ap (λ (l : List ℕ). Counted k (folded start l .skipped)) prefix in
       record {
         k = k;
         some = let n = ap length prefix ∙ length-take k list in omega arith;
-        answer =
-            sym (call .0)
-            ∙ ap (λ (y : Sizes). counted y room p) same
-            ∙ ap (λ (l : List ℕ). Counted k (folded start l .skipped)) prefix;
+        takes = prefix;
+        accepted = ap catalogueRefusal answer;
+        taken = ap takenOf answer;
+        skipped = ap skippedOf answer;
         cells =
             sym (call .1)
             ∙ ap (λ (y : Sizes). entriesOf y room p .cells) same
@@ -86,11 +75,14 @@ from-opened z fit steps =
       catalogues =
           always-map (Shown z first) (AllShow z (leading first 0 (z .slots))) (shows z first) cells steps
           (shown z cells (λ t. noGhost) (λ t. blankSlot) now steps first (λ t h. refl));
+      outputs = commits-output z cells (λ t. noGhost) (λ t. blankSlot) now steps;
       agreed = λ t h. all-commit z cells (λ t. noGhost) (λ t. blankSlot) now steps t h (first t) refl;
       offered = offered-earlier z cells (λ t. noGhost) (λ t. blankSlot) now steps;
     }
 
 -- DEMAND 3
-pub one-history : (z : Sizes) (row : List ℕ) → opening z row ≡ Opened → (steps : List Step) → OneHistory z (opened z row) steps
+pub one-history
+    : (z : Sizes) (row : List ℕ) → openRefusal (opening z row) ≡ 0 → (steps : List Step) → OneHistory z (opened z row) steps
 one-history z row e steps =
-    subst (λ (cells : List ℕ). OneHistory z cells steps) (sym (opened-is z row e)) (from-opened z (opened-fit z row e) steps)
+    let o = accepted z row e in
+    subst (λ (cells : List ℕ). OneHistory z cells steps) (sym (o .room)) (from-opened z (fit-of z (o .fits)) steps)

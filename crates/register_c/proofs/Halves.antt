@@ -1,14 +1,14 @@
 -- The packing loses nothing: both halves of an answer, and both counts of a catalogue, can be had back.
 use Prim.Native.Nat.{ℕ, _+_, _*_, _/_, _%_, _<_, _≤_}
 use mathlib.Core.List.{List}
-use mathlib.Core.Path.{_≡_, sym, ap, subst⁻¹}
+use mathlib.Core.Path.{_≡_, subst⁻¹}
 use native.Mathlib.Omega.{arith}
 use Rattle.command.specs.Command.{cabinetLimits}
 use Rattle.range.proofs.Laws.{range-says}
 use Rattle.catalogue.specs.declared.Listing.{Listing}
-use Rattle.catalogue.specs.declared.Listing.the-variants.{Counted}
 use Rattle.catalogue.specs.Call.{catalogueOf}
-use Rattle.catalogue.proofs.AnswerLaws.{accepted-says}
+use Rattle.catalogue.specs.Listing.{catalogueRefusal, takenOf, skippedOf}
+use Rattle.catalogue.proofs.AnswerLaws.{accepted-is, accepted-says}
 use Rattle.register_c.specs.Packing.{packed, packedListing}
 
 -- an accepted call without a word is its number alone
@@ -33,13 +33,16 @@ few : (taken skipped : ℕ) → taken ≤ 16 → skipped ≤ taken → Counts ta
 few taken skipped a b = record { word = omega arith; upper = omega arith; lower = omega arith }
 
 pub counts-back
-    : (room : List ℕ) (server : ℕ) (out : List ℕ) (taken skipped : ℕ)
-    → catalogueOf cabinetLimits room server out ≡ Counted taken skipped
-    → Counts taken skipped (packedListing (catalogueOf cabinetLimits room server out))
-counts-back room server out taken skipped e =
-    let a = accepted-says cabinetLimits room server out taken skipped e in
+    : (room : List ℕ) (server : ℕ) (out : List ℕ)
+    → catalogueRefusal (catalogueOf cabinetLimits room server out) ≡ 0
+    → Counts (takenOf (catalogueOf cabinetLimits room server out)) (skippedOf (catalogueOf cabinetLimits room server out))
+    (packedListing (catalogueOf cabinetLimits room server out))
+counts-back room server out e =
+    let answer = catalogueOf cabinetLimits room server out in
+    let a = accepted-says cabinetLimits room server out e in
     let fit = range-says cabinetLimits room (a .range) .row .fit in
     let slots = fit .slots in
     let most = a .at-most-slots in
-    subst⁻¹ (λ (l : Listing). Counts taken skipped (packedListing l)) e
-    (few taken skipped (omega arith) (a .at-most-taken))
+    subst⁻¹ (λ (l : Listing). Counts (takenOf answer) (skippedOf answer) (packedListing l))
+    (accepted-is cabinetLimits room server out e)
+    (few (takenOf answer) (skippedOf answer) (omega arith) (a .at-most-taken))

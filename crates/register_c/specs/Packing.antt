@@ -2,8 +2,6 @@
 use Prim.Native.Nat.{ℕ, _+_, _*_}
 use Rattle.state.specs.declared.Answer.{Answer}
 use Rattle.state.specs.Answers.{codeOf, numberOf}
-use Rattle.room.specs.declared.opening.Opening.{Opening}
-use Rattle.room.specs.declared.opening.Opening.the-variants as opening
 use Rattle.record.specs.declared.Reading.{Reading}
 use Rattle.record.specs.declared.Reading.the-variants as reading
 use Rattle.record.specs.declared.Writing.{Writing}
@@ -20,11 +18,6 @@ packedAnswer a = packed (codeOf a) (numberOf a)
 
 abbrev pub refusedWord : ℕ
 refusedWord = 4
-
--- open: 0, or the refusal's number
-abbrev pub openNumber : Opening → ℕ
-openNumber opening.Opened = 0
-openNumber (opening.Refused n) = n
 
 -- catalogue: taken and skipped, a byte for the second
 abbrev pub packedListing : Listing → ℕ

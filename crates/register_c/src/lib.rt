@@ -1,14 +1,15 @@
 // The register's calls for C and Rust: numbers and slices only. A slice is a pointer and then a length. Each function
-// has the contract of the call that it wraps, and takes any input at all.
+// takes any input at all; its contract is that of the call that it wraps, with the answer packed in one number. A step is
+// given by its record, and of a record that is read only the length is answered.
 mod steps;
 
 ghost use mathlib.Core.Path.{_≡_};
 ghost use Rattle.state.specs.declared.Sizes.{Sizes};
 ghost use Rattle.command.specs.Command.{cabinetLimits};
-ghost use Rattle.room.specs.Open.{opening, opened};
+ghost use Rattle.room.specs.Open.{openRefusal, opening, opened};
 ghost use Rattle.record.specs.Read.{readingOf};
 ghost use Rattle.catalogue.specs.Call.{catalogueOf, catalogueCells};
-ghost use Rattle.register_c.specs.Packing.{openNumber, packed, packedAnswer, packedListing, packedReading, packedWriting};
+ghost use Rattle.register_c.specs.Packing.{packed, packedAnswer, packedListing, packedReading, packedWriting};
 ghost use Rattle.register_c.specs.Calls.{sizes, lengthOf, recordAnswered, recordStepped, stepBy, kindWriting, kindWritten};
 use register::Listing;
 use register::Opening;
@@ -39,7 +40,7 @@ pub extern "C" fn register_length(servers: u32, drives: u32, slots: u32) -> u32
 // Makes the row a new room: 0, or the refusal's number.
 #[no_mangle]
 pub extern "C" fn register_open(row: &mut [u32], servers: u32, drives: u32, slots: u32) -> u32
-    ensures { λ r. ⌜ (r ≡ openNumber (opening (sizes servers drives slots) (now (row .entry))))
+    ensures { λ r. ⌜ (r ≡ openRefusal (opening (sizes servers drives slots) (now (row .entry))))
         × (now (row .exit) ≡ opened (sizes servers drives slots) (now (row .entry))) ⌝ }
 {
     match register::open(row, servers, drives, slots) {

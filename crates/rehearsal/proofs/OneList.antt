@@ -1,6 +1,6 @@
 -- What the servers' lines say of a run: each server took the first k of the run's one list of commands (demand 3).
 use Prim.Native.Nat.{ℕ, _<_, _≤_}
-use mathlib.Core.Path.{_≡_, sym, ap, subst}
+use mathlib.Core.Path.{_≡_, _∙_, sym, ap, ap₂, subst}
 use mathlib.Core.Bool.{true}
 use mathlib.Core.List.{List, [], _∷_}
 use lib.ListN.{length, take, replicate, length-replicate}
@@ -8,11 +8,14 @@ use borrow.Author.Tests.{eq-eqb}
 use Rattle.state.specs.declared.Sizes.{Sizes}
 use Rattle.state.specs.declared.Step.{Step}
 use Rattle.layout.specs.Places.{sizesFit, roomLength}
-use Rattle.room.specs.Open.{openedCells}
+use Rattle.room.specs.Open.{openRefusal, openedCells}
 use Rattle.room.specs.Step.{stepped}
 use Rattle.room.proofs.OpenLaws.{opens-room}
 use Rattle.history.specs.Run.{ran, history, Always}
+use Rattle.command.specs.Command.{cabinetLimits}
 use Rattle.catalogue.specs.Fold.{pieces, folded, start}
+use Rattle.catalogue.specs.declared.Listing.the-variants.{Counted}
+use Rattle.catalogue.proofs.AnswerLaws.{accepted-is}
 use Rattle.register.specs.OneHistory.{commandsOf, AllShow, OneHistory}
 use Rattle.register.proofs.Theorem.{one-history}
 use Rattle.transcript.specs.Lines.{serverLine}
@@ -35,7 +38,7 @@ module _ (z : Sizes) (fits : sizesFit z ≡ true) (steps : List Step) where
   one =
       let row : List ℕ = replicate (roomLength z) 0 in
       let o = opens-room z row fits (eq-eqb (length row) (roomLength z) (length-replicate (roomLength z) 0)) in
-      subst (λ (cells : List ℕ). OneHistory z cells steps) (sym (o .leaves)) (one-history z row (sym (o .answers)) steps)
+      subst (λ (cells : List ℕ). OneHistory z cells steps) (sym (o .leaves)) (one-history z row (ap openRefusal (sym (o .answers))) steps)
 
   pub one-list
       : (p : ℕ) → p < z .servers → Tells (commandsOf z (history (openedCells z) steps)) (ran (openedCells z) steps) p
@@ -44,4 +47,6 @@ module _ (z : Sizes) (fits : sizesFit z ≡ true) (steps : List Step) where
       let commands = commandsOf z (history (openedCells z) steps) in
       let all = at-last (AllShow z commands) (openedCells z) steps (one .catalogues) in
       let s = all p h (replicate pieces 0) (length-replicate {A = ℕ} pieces 0) in
-      record { k = s .k; some = s .some; line = ap (countsLine p) (s .answer) }
+      let room = ran (openedCells z) steps in
+      let counts = accepted-is cabinetLimits room p (replicate pieces 0) (s .accepted) ∙ ap₂ Counted (s .taken) (s .skipped) in
+      record { k = s .k; some = s .some; line = ap (countsLine p) counts }

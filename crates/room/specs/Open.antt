@@ -9,6 +9,11 @@ use Rattle.layout.specs.Places.{sizesFit, roomLength}
 use Rattle.room.specs.declared.opening.Opening.{Opening}
 use Rattle.room.specs.declared.opening.Opening.the-variants.{Opened, Refused}
 
+-- what open answers: 0, or the number of the refusal
+abbrev pub openRefusal : Opening → ℕ
+openRefusal Opened = 0
+openRefusal (Refused n) = n
+
 -- a room just opened: N, D, S, and every other cell 0
 unfoldable pub openedCells : Sizes → List ℕ
 openedCells z = z .servers ∷ z .drives ∷ z .slots ∷ replicate (roomLength z - 3) 0

@@ -7,6 +7,7 @@ use native.Mathlib.Omega.{arith}
 use lib.Count.{ones}
 use lib.Dec.{eqb, leb}
 use borrow.Author.Tests.{eqb-true, not-true}
+use Rattle.lemmas.proofs.Tests.{by-test}
 use Rattle.command.specs.Command.{kindOf, pieceOf, hoardOf, cabinetLimits, isCommand}
 use Rattle.ballot.specs.Ballot.{owned}
 use Rattle.quorum.specs.Marks.{stands}
@@ -15,11 +16,12 @@ use Rattle.quorum.proofs.SetLaws.{all-at}
 use Rattle.state.specs.declared.Answer.the-variants.{Done, Refused}
 use Rattle.state.specs.declared.Sizes.{Sizes}
 use Rattle.layout.specs.Places.{sizesFit, roomLength}
+use Rattle.layout.proofs.PlaceLaws.{fit-of, of-fit}
 use Rattle.room.specs.declared.opening.Opening.the-variants as opening-answer
-use Rattle.room.specs.Open.{opening}
+use Rattle.room.specs.Open.{openRefusal, opening}
 use Rattle.room.proofs.OpenLaws.{Opens, opens-1}
 use Rattle.starred.specs.Runs.{sizes, newRoom, sameAnswer}
-use Rattle.starred.specs.Cases.{Case, Length, Unopened, Command, NoCommand, Owned, Majority, Run, offered, IsCommand, IsUnopened, Says, refusedWith, isUnopened, holds}
+use Rattle.starred.specs.Cases.{Case, Length, Unopened, Command, NoCommand, Owned, Majority, Run, offered, IsCommand, IsUnopened, Says, isUnopened, holds}
 use Rattle.starred.proofs.RunLaws.{both, same-answer, run-says}
 
 implied : (a b : Bool) → (not a || b) ≡ true → a ≡ true → b ≡ true
@@ -32,14 +34,31 @@ alike true false e = sym e
 alike false true e = e
 alike false false e = refl
 
-unopened : (n number d s : ℕ) (row : List ℕ) → isUnopened number n d s ≡ true → IsUnopened (sizes n d s) number row
+-- where some drives and slots fit with so many servers, one of each does
+fits-least : (n d s : ℕ) → sizesFit (sizes n d s) ≡ true → sizesFit (sizes n 1 1) ≡ true
+fits-least n d s e =
+    let f = fit-of (sizes n d s) e in
+    of-fit (sizes n 1 1)
+    (record {
+      one-server = f .one-server;
+      servers = f .servers;
+      one-drive = omega arith;
+      drives = omega arith;
+      one-slot = omega arith;
+      slots = omega arith;
+    })
+
+unopened : (n number d s : ℕ) (row : List ℕ) → isUnopened n number ≡ true → IsUnopened (sizes n d s) number row
 unopened n number d s row e =
     let z : Sizes = sizes n d s in
-    let t = both (not (sizesFit z)) (refusedWith number (opening z [])) e in
-    let unfit : sizesFit z ≡ false = not-true (sizesFit z) (t .0) in
+    let least : Sizes = sizes n 1 1 in
+    let t = both (not (sizesFit least)) (eqb (openRefusal (opening least [])) number) e in
+    let none : sizesFit least ≡ false = not-true (sizesFit least) (t .0) in
+    let unfit : sizesFit z ≡ false =
+    by-test (sizesFit z) (λ f. absurd (true≢false (sym (fits-least n d s f) ∙ none))) (λ f. f) in
     let o : Opens z row (opening-answer.Refused 1) row = opens-1 z row unfit in
-    let one : 1 ≡ number = eqb-true 1 number (ap (refusedWith number) (opens-1 z [] unfit .answers) ∙ t .1) in
-    record { refused = sym (o .answers) ∙ ap opening-answer.Refused one; kept = sym (o .leaves) }
+    let one : 1 ≡ number = ap openRefusal (opens-1 least [] none .answers) ∙ eqb-true (openRefusal (opening least [])) number (t .1) in
+    record { refused = sym (ap openRefusal (o .answers)) ∙ one; kept = sym (o .leaves) }
 
 command : (v k p h : ℕ) → holds (Command v k p h) ≡ true → IsCommand v k p h
 unfolding holds
@@ -63,10 +82,7 @@ unfolding holds
 case-says (Length n d s cells) e =
     let t = both (sizesFit (sizes n d s)) (eqb (roomLength (sizes n d s)) cells) e in
     (t .0, eqb-true (roomLength (sizes n d s)) cells (t .1))
-case-says (Unopened n number) e =
-    λ d s hd hs row.
-    unopened n number d s row
-    (all-at 17 (isUnopened number n d) (all-at 8 (λ c. allBelow 17 (isUnopened number n c)) e d (omega arith)) s (omega arith))
+case-says (Unopened n number) e = λ d s row. unopened n number d s row e
 case-says (Command v k p h) e = command v k p h e
 case-says (NoCommand v number) e =
     let t = both (not (isCommand cabinetLimits v)) (sameAnswer (offered v) (Refused number)) e in

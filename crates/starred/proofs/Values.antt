@@ -1,5 +1,5 @@
 -- Some starred values in plain words, each read off the table by its law.
-use Prim.Native.Nat.{ℕ, _^_, _<_, _≤_}
+use Prim.Native.Nat.{ℕ, _^_, _<_}
 use mathlib.Core.Path.{_≡_}
 use mathlib.Core.List.{List, [], _∷_, _++_}
 use lib.Count.{ones}
@@ -10,8 +10,7 @@ use Rattle.state.specs.declared.Answer.the-variants.{Outbid, Refused}
 use Rattle.state.specs.declared.Block.{Block}
 use Rattle.state.specs.declared.Step.the-variants.{Read}
 use Rattle.layout.specs.Places.{roomLength}
-use Rattle.room.specs.declared.opening.Opening.the-variants as opening-answer
-use Rattle.room.specs.Open.{opening}
+use Rattle.room.specs.Open.{openRefusal, opening}
 use Rattle.room.specs.Step.{answered, stepped}
 use Rattle.starred.specs.Runs.{sizes, block, newRoom, _↝_, Own, own, Follows, after}
 use Rattle.starred.specs.Cases.{offered}
@@ -23,10 +22,10 @@ pub largest-length : roomLength (sizes 4 7 16) ≡ 1988
 unfolding starred
 largest-length = starred-says 1 .1
 
--- whatever the row
-pub no-servers : (d s : ℕ) → d ≤ 7 → s ≤ 16 → (row : List ℕ) → opening (sizes 0 d s) row ≡ opening-answer.Refused 1
+-- whatever the drives, the slots and the row
+pub no-servers : (d s : ℕ) (row : List ℕ) → openRefusal (opening (sizes 0 d s) row) ≡ 1
 unfolding starred
-no-servers d s hd hs row = starred-says 2 d s hd hs row .refused
+no-servers d s row = starred-says 2 d s row .refused
 
 pub above-the-limit : offered 81725 ≡ Refused 5
 unfolding starred

@@ -1,5 +1,5 @@
 -- The kinds of starred values: what a case of each kind says, and the test that it passes.
-use Prim.Native.Nat.{ℕ, _^_, _<_, _≤_}
+use Prim.Native.Nat.{ℕ, _^_, _<_}
 use mathlib.Core.Bool.{Bool, true, false, not, _&&_, _||_, Bool·beq}
 use mathlib.Core.List.{List, [], _∷_}
 use mathlib.Core.Path.{_≡_}
@@ -15,9 +15,7 @@ use Rattle.state.specs.declared.Answer.the-variants.{Done, Refused}
 use Rattle.state.specs.declared.Sizes.{Sizes}
 use Rattle.state.specs.declared.Step.the-variants.{Offer}
 use Rattle.layout.specs.Places.{sizesFit, roomLength}
-use Rattle.room.specs.declared.opening.Opening.{Opening}
-use Rattle.room.specs.declared.opening.Opening.the-variants as opening-answer
-use Rattle.room.specs.Open.{opening, opened}
+use Rattle.room.specs.Open.{openRefusal, opening, opened}
 use Rattle.room.specs.Step.{answered}
 use Rattle.starred.specs.Runs.{sizes, newRoom, Line, Follows, sameAnswer, follows}
 
@@ -25,7 +23,7 @@ use Rattle.starred.specs.Runs.{sizes, newRoom, Line, Follows, sameAnswer
 pub data Case : Type 0 where
   -- a room of these sizes has so many cells
   Length : (servers drives slots cells : ℕ) → Case
-  -- with so many servers, open is refused with the number
+  -- with so many servers, whatever the drives, the slots and the row, open is refused with the number
   Unopened : (servers number : ℕ) → Case
   -- a command, with its parts
   Command : (v kind piece hoard : ℕ) → Case
@@ -52,31 +50,28 @@ pub record IsCommand (v k p h : ℕ) : Type 0 where
 
 -- open refuses these sizes with the number and leaves the row as it was
 pub record IsUnopened (z : Sizes) (number : ℕ) (row : List ℕ) : Type 0 where
-  pub refused : opening z row ≡ opening-answer.Refused number
+  pub refused : openRefusal (opening z row) ≡ number
   pub kept : opened z row ≡ row
 
 -- what a case says
 abbrev pub Says : Case → Type 0
 Says (Length n d s cells) = (sizesFit (sizes n d s) ≡ true) × (roomLength (sizes n d s) ≡ cells)
-Says (Unopened n number) = (d s : ℕ) → d ≤ 7 → s ≤ 16 → (row : List ℕ) → IsUnopened (sizes n d s) number row
+Says (Unopened n number) = (d s : ℕ) (row : List ℕ) → IsUnopened (sizes n d s) number row
 Says (Command v k p h) = IsCommand v k p h
 Says (NoCommand v number) = (isCommand cabinetLimits v ≡ false) × (offered v ≡ Refused number)
 Says (Owned n b p) = (owned n p b ≡ true) × ((q : ℕ) → q < n → owned n q b ≡ true → q ≡ p)
 Says (Majority d least) = (m : ℕ) → m < 2 ^ d → majority d (stands m) ≡ leb least (ones m)
 Says (Run n d run) = Follows (newRoom (sizes n d 1)) run
 
-abbrev pub refusedWith : ℕ → Opening → Bool
-refusedWith number opening-answer.Opened = false
-refusedWith number (opening-answer.Refused n) = eqb n number
-
--- sizes that do not fit are refused before the row is looked at, so that the empty row shows the number for all
-abbrev pub isUnopened : ℕ → ℕ → ℕ → ℕ → Bool
-isUnopened number n d s = not (sizesFit (sizes n d s)) && refusedWith number (opening (sizes n d s) [])
+-- A number of servers that does not fit with one drive and one slot fits with no others, and sizes that do not fit are
+-- refused before the row is looked at: the smallest drives and slots and the empty row show the number for all.
+abbrev pub isUnopened : ℕ → ℕ → Bool
+isUnopened n number = not (sizesFit (sizes n 1 1)) && eqb (openRefusal (opening (sizes n 1 1) [])) number
 
 -- the test of a case
 unfoldable pub holds : Case → Bool
 holds (Length n d s cells) = sizesFit (sizes n d s) && eqb (roomLength (sizes n d s)) cells
-holds (Unopened n number) = allBelow 8 (λ d. allBelow 17 (isUnopened number n d))
+holds (Unopened n number) = isUnopened n number
 holds (Command v k p h) =
     isCommand cabinetLimits v
     && (eqb (kindOf v) k && (eqb (pieceOf v) p && (eqb (hoardOf v) h && sameAnswer (offered v) Done)))

@@ -18,3 +18,11 @@ numberOf (Outbid b) = b
 numberOf (Chosen c) = c
 numberOf (Committed c) = c
 numberOf (Refused n) = n
+
+-- the number of a refusal; 0 for any other answer
+abbrev pub stepRefusal : Answer → ℕ
+stepRefusal Done = 0
+stepRefusal (Outbid b) = 0
+stepRefusal (Chosen c) = 0
+stepRefusal (Committed c) = 0
+stepRefusal (Refused n) = n

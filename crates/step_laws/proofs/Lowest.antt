@@ -11,11 +11,11 @@ use borrow.Author.Tests.{ltb-true}
 use Rattle.lemmas.proofs.Tests.{by-test, and-left, and-right}
 use Rattle.ballot.specs.declared.Next.{Next}
 use Rattle.ballot.specs.declared.Next.the-variants.{Ballot, Spent}
-use Rattle.state.specs.declared.Answer.the-variants as answer
 use Rattle.state.specs.declared.Server.{Server}
 use Rattle.state.specs.declared.Sizes.{Sizes}
 use Rattle.state.specs.declared.Step.{Step}
 use Rattle.state.specs.declared.Step.the-variants.{Offer, Recall, Rejoin, Bid, Write, Read, Finish, Fail, DriveOff, DriveOn}
+use Rattle.state.specs.Answers.{stepRefusal}
 use Rattle.state.specs.Server.{pickNumber}
 use Rattle.synod.specs.declared.Ruling.{Ruling}
 use Rattle.synod.specs.declared.Ruling.the-variants as ruling
@@ -23,23 +23,22 @@ use Rattle.synod.specs.Rules.{must, pickRuling, outbidRule, offerRule, recallRu
 use Rattle.synod.proofs.Rulings.{recall-cases, rejoin-cases, bid-cases, write-cases, read-cases, finish-cases}
 use Rattle.layout.specs.Cells.{sizesOf, serverOf}
 use Rattle.room.specs.declared.effect.Effect.{Effect}
-use Rattle.room.specs.declared.effect.Effect.the-variants as effect
 use Rattle.room.specs.Judge.{recording, blocking, ruled, answerOf}
 use Rattle.room.specs.Step.{settled, answered, stepped}
 use Rattle.room.proofs.Checks.{by-checks}
-use Rattle.step_laws.specs.Refusals.{isSpent, Refusal, laterRefusals, refusals, lowest, refusalOf}
+use Rattle.step_laws.specs.Refusals.{isSpent, Refusal, laterRefusals, refusals, lowest}
 
 -- the number of a ruling; an accepted one has none
 abbrev refusalBy : Ruling → ℕ
 refusalBy (ruling.Refused n) = n
-refusalBy (ruling.Accepted v a) = refusalOf a
+refusalBy (ruling.Accepted v a) = stepRefusal a
 
 must-number : (b : Bool) (n : ℕ) (rest : Ruling) → refusalBy (must b n rest) ≡ pickNumber (not b) n (refusalBy rest)
 unfolding must
 must-number true n rest = refl
 must-number false n rest = refl
 
-record-number : (s p : ℕ) (x : Ruling) → refusalOf (answerOf (recording s p x)) ≡ refusalBy x
+record-number : (s p : ℕ) (x : Ruling) → stepRefusal (answerOf (recording s p x)) ≡ refusalBy x
 record-number s p (ruling.Refused n) = refl
 record-number s p (ruling.Accepted v a) = refl
 
@@ -63,12 +62,12 @@ try-number false u = refl
 
 write-number
     : (s d p off : ℕ) (v : Server)
-    → refusalOf (answerOf (blocking s d p (writeRule off v d))) ≡ refusalBy (writeRule off v d)
+    → stepRefusal (answerOf (blocking s d p (writeRule off v d))) ≡ refusalBy (writeRule off v d)
 write-number s d p off v =
-    write-cases (λ x. refusalOf (answerOf (blocking s d p x)) ≡ refusalBy x) (λ n. refl) v off d (λ b. refl)
+    write-cases (λ x. stepRefusal (answerOf (blocking s d p x)) ≡ refusalBy x) (λ n. refl) v off d (λ b. refl)
 
 -- each kind's rule refuses with the first of its conditions that fails
-ruled-lowest : (z : Sizes) (cells : List ℕ) (st : Step) → refusalOf (answerOf (ruled z cells st)) ≡ lowest (laterRefusals z cells st)
+ruled-lowest : (z : Sizes) (cells : List ℕ) (st : Step) → stepRefusal (answerOf (ruled z cells st)) ≡ lowest (laterRefusals z cells st)
 unfolding ruled laterRefusals lowest offerRule recallRule rejoinRule bidRule writeRule readRule finishRule
 ruled-lowest z cells (Offer p s c) = refl
 ruled-lowest z cells (Recall p s d) = simp (record-number, must-number, Bool·not-not)
@@ -83,11 +82,11 @@ ruled-lowest z cells (DriveOff d) = refl
 ruled-lowest z cells (DriveOn d) = refl
 
 -- the answer refuses with the lowest number that applies, and with none where none applies
-pub answer-lowest : (cells : List ℕ) (st : Step) → refusalOf (answered cells st) ≡ lowest (refusals cells st)
+pub answer-lowest : (cells : List ℕ) (st : Step) → stepRefusal (answered cells st) ≡ lowest (refusals cells st)
 unfolding answered refusals lowest
 answer-lowest cells st =
     by-checks cells st
-    (λ (e : Effect). refusalOf (answerOf e) ≡ lowest (refusals cells st))
+    (λ (e : Effect). stepRefusal (answerOf e) ≡ lowest (refusals cells st))
     (λ a. simp a)
     (λ a b. simp (a, b))
     (λ a b c. simp (a, b, c))
@@ -150,7 +149,7 @@ lowest-first n (x ∷ rs) up r m e =
 
 -- an accepted ruling is never answered with a refusal, so a refusal stores nothing
 abbrev Stays : Sizes → List ℕ → Effect → Type 0
-Stays z cells e = (refusalOf (answerOf e) ≡ 0 → ⊥) → settled z cells e ≡ cells
+Stays z cells e = (stepRefusal (answerOf e) ≡ 0 → ⊥) → settled z cells e ≡ cells
 
 ruled-leaves : (z : Sizes) (cells : List ℕ) (st : Step) → Stays z cells (ruled z cells st)
 unfolding ruled settled offerRule
@@ -174,10 +173,10 @@ ruled-leaves z cells (DriveOff d) = λ n. absurd (n refl)
 ruled-leaves z cells (DriveOn d) = λ n. absurd (n refl)
 
 -- a refusal leaves every cell as it was
-pub refusal-leaves : (cells : List ℕ) (st : Step) → (refusalOf (answered cells st) ≡ 0 → ⊥) → stepped cells st ≡ cells
+pub refusal-leaves : (cells : List ℕ) (st : Step) → (stepRefusal (answered cells st) ≡ 0 → ⊥) → stepped cells st ≡ cells
 unfolding answered stepped settled
 refusal-leaves cells st =
     by-checks cells st
-    (λ (e : Effect). (refusalOf (answerOf e) ≡ 0 → ⊥) → settled (sizesOf cells) cells e ≡ cells)
+    (λ (e : Effect). (stepRefusal (answerOf e) ≡ 0 → ⊥) → settled (sizesOf cells) cells e ≡ cells)
     (λ a n. refl) (λ a b n. refl) (λ a b c n. refl)
     (λ a b c. ruled-leaves (sizesOf cells) cells st)

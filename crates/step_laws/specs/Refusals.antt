@@ -9,8 +9,6 @@ use Rattle.ballot.specs.declared.Next.{Next}
 use Rattle.ballot.specs.declared.Next.the-variants.{Ballot, Spent}
 use Rattle.quorum.specs.Marks.{stands}
 use Rattle.quorum.specs.Sets.{majority}
-use Rattle.state.specs.declared.Answer.{Answer}
-use Rattle.state.specs.declared.Answer.the-variants as answer
 use Rattle.state.specs.declared.Sizes.{Sizes}
 use Rattle.state.specs.declared.Step.{Step}
 use Rattle.state.specs.declared.Step.the-variants.{Offer, Recall, Rejoin, Bid, Write, Read, Finish, Fail, DriveOff, DriveOn}
@@ -88,11 +86,3 @@ refusals cells st =
 unfoldable pub lowest : List Refusal → ℕ
 lowest [] = 0
 lowest (r ∷ rs) = pickNumber (r .applies) (r .number) (lowest rs)
-
--- the number that an answer refuses with; 0 where it does not
-abbrev pub refusalOf : Answer → ℕ
-refusalOf answer.Done = 0
-refusalOf (answer.Outbid b) = 0
-refusalOf (answer.Chosen c) = 0
-refusalOf (answer.Committed c) = 0
-refusalOf (answer.Refused n) = n

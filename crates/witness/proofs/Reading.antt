@@ -7,8 +7,7 @@ use native.Mathlib.Omega.{arith}
 use lib.ListN.{getD, take, replicate}
 use Rattle.state.specs.declared.Step.{Step}
 use Rattle.layout.specs.Places.{roomLength}
-use Rattle.room.specs.declared.opening.Opening.the-variants.{Opened}
-use Rattle.room.specs.Open.{opening}
+use Rattle.room.specs.Open.{openRefusal, opening}
 use Rattle.room.specs.Step.{stepped}
 use Rattle.catalogue.specs.Fold.{folded, start}
 use Rattle.catalogue.specs.Listing.{takenOf}
@@ -44,7 +43,7 @@ at-last P cells (st ∷ sts) a = at-last P (stepped cells st) sts (a .1)
 -- what is computed of an example with two servers
 pub record Computed (e : Example) : Type 0 where
   pub servers : e .sizes .servers ≡ 2
-  pub opens : opening (e .sizes) (replicate (roomLength (e .sizes)) 9) ≡ Opened
+  pub opens : openRefusal (opening (e .sizes) (replicate (roomLength (e .sizes)) 9)) ≡ 0
   pub answers : follows (newRoom (e .sizes)) (e .run) ≡ true
   pub chosen : said chosenCode (eventsOf (e .run)) ≡ e .chosen
   pub committed : said committedCode (eventsOf (e .run)) ≡ e .committed
@@ -67,7 +66,7 @@ module _ (e : Example) (c : Computed e) where
   first : (p : ℕ) → p < e .sizes .servers → Lists e p → IsFirst e p
   first p h l =
       let s = at-last _ (newRoom (e .sizes)) (stepsOf (e .run)) (one .catalogues) p h lent refl in
-      let k : s .k ≡ getD (e .taken) p 0 = ap takenOf (sym (s .answer) ∙ l .answer) in
+      let k : s .k ≡ getD (e .taken) p 0 = sym (s .taken) ∙ ap takenOf (l .answer) in
       let list = ap (commandsOf (e .sizes)) told ∙ c .commands in
       sym (l .cells)
       ∙ s .cells

@@ -2,11 +2,8 @@
 use borrow.Author.Needs.{needs}
 use Rattle.register_c.proofs.register_open.Statement.{statement}
 use Rattle.register_c.proofs.register_open.Tie as tie
-use Rattle.register_c.proofs.register_open.Reads as reads
-use Rattle.register_c.proofs.register_open.Lts as lts
-use Rattle.room.proofs.opening.open.Reads as open-reads
 use mathlib.Core.Path.{_∙_, sym, ap}
-use Rattle.register_c.specs.Packing.{openNumber}
+use Rattle.room.specs.Open.{openRefusal}
 
 open-requires : tie.Need-open-requires
 open-requires c κs = search needs
@@ -24,7 +21,7 @@ returns : tie.Need-returns
 returns c =
     let at-open = c .before .before .before .before .«open» in
     let at-enum-told = c .enum-told in
-    (sym (ap openNumber (at-enum-told .given .1)) ∙ ap openNumber (at-open .ensures .0), at-open .ensures .1)
+    (sym (ap openRefusal (at-enum-told .given .1)) ∙ ap openRefusal (at-open .ensures .0), at-open .ensures .1)
 
 same-length-2 : tie.Need-same-length-2
 same-length-2 c = search needs
@@ -33,7 +30,7 @@ returns-2 : tie.Need-returns-2
 returns-2 c =
     let at-open = c .before .before .before .before .before .«open» in
     let at-number = c .before .number in
-    (sym (ap openNumber (at-number .given .1)) ∙ ap openNumber (at-open .ensures .0), at-open .ensures .1)
+    (sym (ap openRefusal (at-number .given .1)) ∙ ap openRefusal (at-open .ensures .0), at-open .ensures .1)
 
 pub register-open-spec : {M : Type 1} → statement M
 register-open-spec =

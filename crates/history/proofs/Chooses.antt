@@ -1,0 +1,52 @@
+-- The machine's Choose is read off any committed answer. On every row only a Finish commits, so it is 01's: a committed
+-- Finish makes Choose(p) in its slot, and no other step makes one.
+use Prim.Native.Nat.{ℕ}
+use mathlib.Core.Path.{_≡_, refl, _∙_, sym, ap, subst}
+use mathlib.Core.Bool.{Bool, true, true≢false, _&&_}
+use mathlib.Core.List.{List}
+use lib.Dec.{eqb}
+use borrow.Author.Tests.{eqb-true, eq-eqb}
+use Rattle.lemmas.proofs.Tests.{by-test, and-right, and-intro}
+use Rattle.state.specs.declared.Answer.{Answer}
+use Rattle.state.specs.declared.Step.{Step}
+use Rattle.state.specs.declared.Step.the-variants.{Finish}
+use Rattle.state.specs.Answers.{codeOf}
+use Rattle.room.specs.Step.{answered}
+use Rattle.step_laws.proofs.Commits.{only-finish}
+use Rattle.history.specs.Run.{Move, Chooses, Rests, pickMove, committed, moveOf, WhenChooses}
+use Rattle.history.proofs.Answers.{chooses-map, picks, chooser}
+
+-- "a committed Finish makes Choose(p) in its slot"
+pub finish-chooses
+    : (t p : ℕ) (cells : List ℕ) → committed (answered cells (Finish p t)) ≡ true
+    → moveOf t (Finish p t) (answered cells (Finish p t)) ≡ Chooses p
+unfolding moveOf
+finish-chooses t p cells e =
+    ap (λ (b : Bool). pickMove b (Chooses p) Rests)
+    (and-intro (committed (answered cells (Finish p t))) (eqb t t) e (eq-eqb t t refl))
+
+-- the step is a Finish of server p in slot t, and its answer is committed
+pub record ByFinish (t : ℕ) (cells : List ℕ) (st : Step) (p : ℕ) : Type 0 where
+  pub step : st ≡ Finish p t
+  pub commits : committed (answered cells st) ≡ true
+
+finished : (t p s : ℕ) (a : Answer) → WhenChooses (moveOf t (Finish p s) a) (λ q. Finish p s ≡ Finish q t)
+unfolding moveOf
+finished t p s a =
+    picks (committed a && eqb s t) p _ (λ e. ap (Finish p) (eqb-true s t (and-right (committed a) (eqb s t) e)))
+
+by-finish : (t : ℕ) (cells : List ℕ) (st : Step) → WhenChooses (moveOf t st (answered cells st)) (ByFinish t cells st)
+by-finish t cells st =
+    let a = answered cells st in
+    let m = moveOf t st a in
+    by-test (committed a)
+    (λ e.
+    let f = only-finish cells st (eqb-true (codeOf a) 3 e) in
+    let is = subst (λ (x : Step). WhenChooses (moveOf t x a) (λ q. x ≡ Finish q t)) (sym (f .is)) (finished t (f .server) (f .slot) a) in
+    chooses-map m _ _ (λ q s. record { step = s; commits = e }) is)
+    (λ e. chooses-map m _ _ (λ q c. absurd (true≢false (sym (c .by) ∙ e))) (chooser t st a))
+
+-- "any other step, and any refusal, none"
+pub choose-is-finish
+    : (t p : ℕ) (cells : List ℕ) (st : Step) → moveOf t st (answered cells st) ≡ Chooses p → ByFinish t cells st p
+choose-is-finish t p cells st e = subst (λ (m : Move). WhenChooses m (ByFinish t cells st)) e (by-finish t cells st)
