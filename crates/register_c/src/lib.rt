@@ -1,6 +1,7 @@
 // The register's calls for C and Rust: numbers and slices only. A slice is a pointer and then a length. Each function
-// takes any input at all; its contract is that of the call that it wraps, with the answer packed in one number. A step is
-// given by its record, and of a record that is read only the length is answered.
+// takes any input at all; its contract gives the answer, packed in one number, and every lent cell or byte by the
+// definitions of the call that it wraps. A step is given by its record, and of a record that is read only the length is
+// answered.
 mod steps;
 
 ghost use mathlib.Core.Path.{_≡_};
