@@ -12,8 +12,8 @@ use Rattle.layout.specs.Places.{sizesFit, roomLength}
 use Rattle.layout.specs.Cells.{sizesOf}
 use Rattle.layout.proofs.PlaceLaws.{fit-of}
 use Rattle.room.specs.declared.opening.Opening.the-variants.{Opened, Refused}
-use Rattle.room.specs.Open.{opening, openedBy, opened, openedCells}
-use Rattle.room.proofs.OpenLaws.{opens-1, opens-room}
+use Rattle.room.specs.Open.{openRefusal, opening, opened, openedCells}
+use Rattle.room.proofs.OpenLaws.{opens-1, opens-room, accepted}
 use Rattle.history.specs.Run.{ran}
 use Rattle.transcript.specs.Lines.{lineMax, openLine, Printed}
 use Rattle.transcript.proofs.LineLaws.{open-max}
@@ -24,17 +24,7 @@ use Rattle.rehearsal.proofs.BufferLaws.{added, holds}
 
 module _ (z : Sizes) (row : List ℕ) where
   pub opened-fits : opening z row ≡ Opened → sizesFit z ≡ true
-  opened-fits e =
-      by-test (sizesFit z)
-      (λ a. a)
-      (λ a.
-      let b = opens-1 z row a .answers in
-      let c : _≡_ {A = ℕ} 0 1 = cc in
-      absurd (omega arith))
-
-  opened-is : opening z row ≡ Opened → opened z row ≡ openedCells z
-  unfolding opened
-  opened-is e = ap (openedBy z row) e
+  opened-fits e = accepted z row (ap openRefusal e) .fits
 
   -- the only refusal is that of the sizes
   refused-is : {n : ℕ} → length row ≡ lengthFor z → opening z row ≡ Refused n → (sizesFit z ≡ false) × (1 ≡ n)
@@ -55,7 +45,7 @@ module _ (z : Sizes) (row : List ℕ) where
   opened-text {cells} {after} {input} {l} {m} {i} {j} e same size t a =
       let s = script (drop 3 input) in
       let fits = opened-fits e in
-      let is : cells ≡ openedCells z = same ∙ opened-is e in
+      let is : cells ≡ openedCells z = same ∙ accepted z row (ap openRefusal e) .room in
       let few = fit-of z fits .servers in
       let lines = t .contents ∙ ap (λ (room : List ℕ). recordLines 0 room s) is in
       let room = t .room ∙ ap (λ (r : List ℕ). ran r (s .steps)) is in
