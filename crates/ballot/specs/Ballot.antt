@@ -1,6 +1,6 @@
 -- Ballots and their owners (01, "The room in memory": "Ballot b, 1 to 1,000,000, belongs to server (b - 1) mod N").
 use Prim.Native.Nat.{ℕ, _+_, _-_, _%_}
-use mathlib.Core.Bool.{Bool, true, false, _&&_}
+use mathlib.Core.Bool.{Bool, _&&_, cond}
 use lib.Dec.{eqb, leb, ltb}
 use Rattle.state.specs.Block.{ballotFits}
 use Rattle.ballot.specs.declared.Next.{Next}
@@ -22,10 +22,6 @@ leastAbove n p f = f + (p + n - f % n) % n + 1
 abbrev pub askable : ℕ → ℕ → ℕ → Bool
 askable n p f = ltb p n && leb n 4 && ballotFits f
 
-abbrev pub pickNext : Bool → Next → Next → Next
-pickNext true a b = a
-pickNext false a b = b
-
 -- p's least ballot above f, or none where its ballots are spent
 unfoldable pub nextOwn : ℕ → ℕ → ℕ → Next
-nextOwn n p f = pickNext (askable n p f && ballotFits (leastAbove n p f)) (Ballot (leastAbove n p f)) Spent
+nextOwn n p f = cond (askable n p f && ballotFits (leastAbove n p f)) (Ballot (leastAbove n p f)) Spent

@@ -1,18 +1,17 @@
 -- Laws of the fold: over an append, and what it keeps of the cells and of the count.
 use Prim.Native.Nat.{ℕ, zero, suc, _+_, _≤_}
 use mathlib.Core.Path.{_≡_, refl, _∙_}
-use mathlib.Core.Bool.{Bool, true, false}
+use mathlib.Core.Bool.{Bool, true, false, cond}
 use mathlib.Core.List.{List, [], _∷_, _++_}
 use native.Mathlib.Omega.{arith}
 use lib.ListN.{length, getD, set, length-set, replicate}
 use lib.Dec.{eqb}
 use Rattle.command.specs.Command.{kindOf, pieceOf, hoardOf, strike}
-use Rattle.state.specs.Server.{pickNumber}
 use Rattle.catalogue.specs.Entry.{skips, changed, entry}
 use Rattle.catalogue.specs.Fold.{pieces, Entries, cellOf, cellsAfter, skippedBy, applied, folded, start}
 
 -- what is picked from two bounded numbers is bounded
-pick-small : (b : Bool) (x y m : ℕ) → x ≤ m → y ≤ m → pickNumber b x y ≤ m
+pick-small : (b : Bool) (x y m : ℕ) → x ≤ m → y ≤ m → cond b x y ≤ m
 pick-small true x y m h k = h
 pick-small false x y m h k = k
 

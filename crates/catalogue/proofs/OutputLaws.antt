@@ -2,7 +2,7 @@
 -- in a room in range each is a command.
 use Prim.Native.Nat.{ℕ, zero, suc, _+_, _-_, _≤_, _<_}
 use mathlib.Core.Path.{_≡_, refl, _∙_, sym, ap, ap₂, subst}
-use mathlib.Core.Bool.{Bool, true, false, _&&_}
+use mathlib.Core.Bool.{Bool, true, false, _&&_, cond}
 use mathlib.Core.List.{List, [], _∷_}
 use native.Mathlib.Omega.{arith}
 use native.Mathlib.Nat.{add-zero, zero-add}
@@ -14,7 +14,7 @@ use Rattle.lemmas.proofs.Tests.{by-test, and-left, and-right}
 use Rattle.command.specs.Command.{kindOf, pieceOf, hoardOf, hoardFits, isCommand}
 use Rattle.state.specs.declared.Server.{Server}
 use Rattle.state.specs.declared.Sizes.{Sizes}
-use Rattle.state.specs.Server.{pickNumber, outputOf}
+use Rattle.state.specs.Server.{outputOf}
 use Rattle.layout.specs.Cells.{serverOf}
 use Rattle.range.specs.declared.Masks.{Masks}
 use Rattle.range.specs.Range.{masksOf, valueFits, numbersFit, serverFits}
@@ -140,7 +140,7 @@ value-piece limits v e =
           (and-left (leb (pieceOf v) 63) (hoardFits limits (kindOf v) (pieceOf v) (hoardOf v)) (value-command limits v e (eqb-false v 0 z))),
     ))
 
-output-of : (limits : List ℕ) (b : Bool) (v : ℕ) → valueFits limits v ≡ true → valueFits limits (pickNumber b v 0) ≡ true
+output-of : (limits : List ℕ) (b : Bool) (v : ℕ) → valueFits limits v ≡ true → valueFits limits (cond b v 0) ≡ true
 unfolding valueFits
 output-of limits true v e = e
 output-of limits false v e = refl

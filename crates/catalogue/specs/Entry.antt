@@ -1,9 +1,8 @@
 -- One command and the cell of its piece (01, "The catalogue"). A cell is the piece's hoard, 0 if it has none.
 use Prim.Native.Nat.{ℕ}
-use mathlib.Core.Bool.{Bool, not, _&&_, _||_}
+use mathlib.Core.Bool.{Bool, not, _&&_, _||_, cond}
 use lib.Dec.{eqb}
 use Rattle.command.specs.Command.{enter, move, strike}
-use Rattle.state.specs.Server.{pickNumber}
 
 -- "Enter sets a cell that is 0; move sets, and strike zeroes, a cell that isn't"
 unfoldable pub applies : ℕ → ℕ → Bool
@@ -15,8 +14,8 @@ skips kind cell = not (applies kind cell)
 
 -- what the cell becomes where the command is not skipped
 abbrev pub changed : ℕ → ℕ → ℕ
-changed kind hoard = pickNumber (eqb kind strike) 0 hoard
+changed kind hoard = cond (eqb kind strike) 0 hoard
 
 -- the cell after a command
 unfoldable pub entry : ℕ → ℕ → ℕ → ℕ
-entry kind hoard cell = pickNumber (skips kind cell) cell (changed kind hoard)
+entry kind hoard cell = cond (skips kind cell) cell (changed kind hoard)

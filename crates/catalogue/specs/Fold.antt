@@ -1,9 +1,9 @@
 -- A list of commands applied to the 64 cells, one after the other (01, "The catalogue").
+use mathlib.Core.Bool.{cond}
 use Prim.Native.Nat.{ℕ, _+_}
 use mathlib.Core.List.{List, [], _∷_}
 use lib.ListN.{getD, set, replicate}
 use Rattle.command.specs.Command.{kindOf, pieceOf, hoardOf}
-use Rattle.state.specs.Server.{pickNumber}
 use Rattle.catalogue.specs.Entry.{skips, entry}
 
 -- "64 lent cells, one per piece"
@@ -25,7 +25,7 @@ cellsAfter cells v = set cells (pieceOf v) (entry (kindOf v) (hoardOf v) (cellOf
 
 -- 1 for a command that is skipped, 0 for any other
 unfoldable pub skippedBy : List ℕ → ℕ → ℕ
-skippedBy cells v = pickNumber (skips (kindOf v) (cellOf cells v)) 1 0
+skippedBy cells v = cond (skips (kindOf v) (cellOf cells v)) 1 0
 
 abbrev pub applied : Entries → ℕ → Entries
 applied e v = record { cells = cellsAfter (e .cells) v; skipped = e .skipped + skippedBy (e .cells) v }

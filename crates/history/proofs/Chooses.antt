@@ -2,28 +2,26 @@
 -- Finish makes Choose(p) in its slot, and no other step makes one.
 use Prim.Native.Nat.{ℕ}
 use mathlib.Core.Path.{_≡_, refl, _∙_, sym, ap, subst}
-use mathlib.Core.Bool.{Bool, true, true≢false, _&&_}
+use mathlib.Core.Bool.{true, true≢false, cond}
 use mathlib.Core.List.{List}
 use lib.Dec.{eqb}
 use borrow.Author.Tests.{eqb-true, eq-eqb}
-use Rattle.lemmas.proofs.Tests.{by-test, and-right, and-intro}
+use Rattle.lemmas.proofs.Tests.{by-test}
 use Rattle.state.specs.declared.Answer.{Answer}
 use Rattle.state.specs.declared.Step.{Step}
 use Rattle.state.specs.declared.Step.the-variants.{Finish}
 use Rattle.state.specs.Answers.{codeOf}
 use Rattle.room.specs.Step.{answered}
 use Rattle.step_laws.proofs.Commits.{only-finish}
-use Rattle.history.specs.Run.{Move, Chooses, Rests, pickMove, committed, moveOf, WhenChooses}
-use Rattle.history.proofs.Answers.{chooses-map, picks, chooser}
+use Rattle.history.specs.Run.{Move, Chooses, Rests, committed, moveOf, WhenChooses}
+use Rattle.history.proofs.Choosers.{chooses-map, tested, chooser}
 
 -- "a committed Finish makes Choose(p) in its slot"
 pub finish-chooses
     : (t p : ℕ) (cells : List ℕ) → committed (answered cells (Finish p t)) ≡ true
     → moveOf t (Finish p t) (answered cells (Finish p t)) ≡ Chooses p
 unfolding moveOf
-finish-chooses t p cells e =
-    ap (λ (b : Bool). pickMove b (Chooses p) Rests)
-    (and-intro (committed (answered cells (Finish p t))) (eqb t t) e (eq-eqb t t refl))
+finish-chooses t p cells e = rw (eq-eqb t t refl, e) refl
 
 -- the step is a Finish of server p in slot t, and its answer is committed
 pub record ByFinish (t : ℕ) (cells : List ℕ) (st : Step) (p : ℕ) : Type 0 where
@@ -33,7 +31,8 @@ pub record ByFinish (t : ℕ) (cells : List ℕ) (st : Step) (p : ℕ) : Type 0 
 finished : (t p s : ℕ) (a : Answer) → WhenChooses (moveOf t (Finish p s) a) (λ q. Finish p s ≡ Finish q t)
 unfolding moveOf
 finished t p s a =
-    picks (committed a && eqb s t) p _ (λ e. ap (Finish p) (eqb-true s t (and-right (committed a) (eqb s t) e)))
+    tested (eqb s t) (cond (committed a) (Chooses p) Rests) _
+    (λ e. tested (committed a) (Chooses p) _ (λ c. ap (Finish p) (eqb-true s t e)))
 
 by-finish : (t : ℕ) (cells : List ℕ) (st : Step) → WhenChooses (moveOf t st (answered cells st)) (ByFinish t cells st)
 by-finish t cells st =

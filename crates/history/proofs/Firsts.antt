@@ -1,20 +1,19 @@
 -- The first command that is not none: of two, and of a list of commits.
 use Prim.Native.Nat.{ℕ}
 use mathlib.Core.Path.{_≡_, refl, _∙_, sym, ap}
-use mathlib.Core.Bool.{Bool}
+use mathlib.Core.Bool.{Bool, cond}
 use mathlib.Core.List.{List, [], _∷_, List·Memᴰ, List·Memᴰ·head, List·Memᴰ·tail, List·Memᴰ·not-nil}
 use lib.Dec.{eqb}
 use borrow.Author.Tests.{eq-eqb, ne-eqb, eqb-true, eqb-false}
 use Rattle.lemmas.proofs.Tests.{by-test}
-use Rattle.state.specs.Server.{pickNumber}
 use Rattle.synod.specs.Slot.{Tried}
 use Rattle.history.specs.Run.{orElse}
 
 pub or-none : (a b : ℕ) → a ≡ 0 → orElse a b ≡ b
-or-none a b e = ap (λ (t : Bool). pickNumber t b a) (eq-eqb a 0 e)
+or-none a b e = ap (λ (t : Bool). cond t b a) (eq-eqb a 0 e)
 
 pub or-some : (a b : ℕ) → (a ≡ 0 → ⊥) → orElse a b ≡ a
-or-some a b n = ap (λ (t : Bool). pickNumber t b a) (ne-eqb a 0 n)
+or-some a b n = ap (λ (t : Bool). cond t b a) (ne-eqb a 0 n)
 
 -- by whether a number is 0
 pub by-zero {ℓ} : {X : Type ℓ} (a : ℕ) → (a ≡ 0 → X) → ((a ≡ 0 → ⊥) → X) → X

@@ -3,6 +3,7 @@ pub mod Firsts
 pub mod SlotMoves
 pub mod StepMoves
 pub mod Answers
+pub mod Choosers
 pub mod Chooses
 pub mod Moments
 pub mod Opened

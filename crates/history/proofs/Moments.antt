@@ -2,7 +2,7 @@
 -- a moment to the next, and every slot's machine makes the move that is read off the step and its answer.
 use Prim.Native.Nat.{ℕ, _<_}
 use mathlib.Core.Path.{_≡_, _∙_, sym, ap, subst}
-use mathlib.Core.Bool.{Bool, true, false}
+use mathlib.Core.Bool.{true, cond}
 use mathlib.Core.List.{List}
 use Rattle.lemmas.proofs.Tests.{by-test}
 use Rattle.state.specs.declared.Answer.{Answer}
@@ -11,26 +11,29 @@ use Rattle.state.specs.declared.Sizes.{Sizes}
 use Rattle.state.specs.declared.Step.{Step}
 use Rattle.synod.specs.declared.Ruling.{Ruling}
 use Rattle.synod.specs.Arguments.{placesFit, commandFits}
-use Rattle.synod.specs.Slot as slot
-use Rattle.synod.specs.Slot.{Slot, Fits, configOf, Ghost, after, noted}
+use Rattle.synod.specs.Rules as slot
+use Rattle.synod.specs.Rules.{Slot, configOf, after}
+use Rattle.synod.specs.Slot.{Fits, Ghost, noted}
 use Rattle.synod.proofs.Alike.{Alike, alike-then, ruled-alike, after-alike}
 use Rattle.synod.proofs.Invariant.{Invariant}
 use Rattle.synod.proofs.Kept.{kept}
+use Rattle.synod.proofs.Places.{in-view}
 use Rattle.layout.specs.Places.{Fit}
 use Rattle.layout.specs.Cells.{offOf}
 use Rattle.room.specs.declared.effect.Effect.{Effect}
-use Rattle.room.specs.declared.effect.Effect.the-variants as effect
-use Rattle.room.specs.Judge.{limitsOf, ruled, judged, answerOf}
+use Rattle.room.specs.Judge.{seen, limitsOf, ruled, judged, answerOf}
 use Rattle.room.specs.Step.{settled, answered, stepped}
 use Rattle.room.proofs.Checks.{by-checks}
-use Rattle.step_laws.specs.Slots.{seen, concerns, afterAt}
+use Rattle.step_laws.specs.Slots.{concerns, afterAt}
 use Rattle.step_laws.proofs.StoresKeep.{Whole}
 use Rattle.step_laws.proofs.StepKeeps.{ruled-kept}
 use Rattle.step_laws.proofs.SlotTie.{slot-tie}
 use Rattle.history.specs.Run.{Rests, moveOf, WhenChooses}
 use Rattle.history.proofs.SlotMoves.{rests}
-use Rattle.history.proofs.StepMoves.{answerBy, MovesBy, concerned}
-use Rattle.history.proofs.Answers.{refused-rests, unconcerned, chooses-map, chooser, answer-tie}
+use Rattle.step_laws.proofs.Lowest.{answerBy}
+use Rattle.history.proofs.StepMoves.{MovesBy, concerned}
+use Rattle.history.proofs.Answers.{refused-rests, unconcerned, answer-tie}
+use Rattle.history.proofs.Choosers.{chooses-map, chooser}
 
 pub record Moment (limits : List ℕ) (z : Sizes) (cells : List ℕ) (g : ℕ → Ghost) (σ : ℕ → Slot) : Type 0 where
   pub whole : Whole limits z cells
@@ -44,10 +47,6 @@ pub record Next (limits : List ℕ) (z : Sizes) (g : ℕ → Ghost) (σ : ℕ �
   pub moment : Moment limits z cells ghosts slots
   pub moves : (t : ℕ) → t < z .slots → MovesBy t (g t) (σ t) st a (ghosts t) (slots t)
   pub within : (t : ℕ) → WhenChooses (moveOf t st a) (λ p. p < z .servers)
-
-abbrev pickGhost : Bool → Ghost → Ghost → Ghost
-pickGhost true a b = a
-pickGhost false a b = b
 
 fits-of : (z : Sizes) → Fit z → Fits (configOf z)
 fits-of z f = record { servers = f .servers; drives = f .drives }
@@ -77,7 +76,7 @@ module _ (limits : List ℕ) (z : Sizes) (cells : List ℕ) (g : ℕ → Ghost) 
 
   abbrev ghostAfter : Step → ℕ → Ghost
   ghostAfter st t =
-      pickGhost (concerns t st) (noted (g t) (σ t) st (slot.ruled (configOf z) (offOf cells) (σ t) st)) (g t)
+      cond (concerns t st) (noted (g t) (σ t) st (slot.ruled (configOf z) (offOf cells) (σ t) st)) (g t)
 
   holds-after
       : (st : Step) → placesFit z st ≡ true → (t : ℕ) → t < z .slots
@@ -118,7 +117,7 @@ module _ (limits : List ℕ) (z : Sizes) (cells : List ℕ) (g : ℕ → Ghost) 
         moves = moves-after st h;
         within =
             λ t.
-            chooses-map (moveOf t st (answerOf (ruled z cells st))) _ _ (λ p c. c .within z h) (chooser t st (answerOf (ruled z cells st)));
+            chooses-map (moveOf t st (answerOf (ruled z cells st))) _ _ (λ p c. c .within z (in-view z st h)) (chooser t st (answerOf (ruled z cells st)));
       }
 
   refused-next : (st : Step) (n : ℕ) → Next limits z g σ st (answer.Refused n) cells

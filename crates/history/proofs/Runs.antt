@@ -9,7 +9,8 @@ use Rattle.state.specs.declared.Sizes.{Sizes}
 use Rattle.state.specs.declared.Step.{Step}
 use Rattle.state.specs.Answers.{numberOf}
 use Rattle.state.specs.Server.{offerOf, outputOf}
-use Rattle.synod.specs.Slot.{Slot, Ghost}
+use Rattle.synod.specs.Rules.{Slot}
+use Rattle.synod.specs.Slot.{Ghost}
 use Rattle.synod.proofs.Agreement.{agree, output-committed}
 use Rattle.synod.proofs.Outputs.{outputs}
 use Rattle.layout.specs.Cells.{sizesOf, serverOf}
@@ -21,7 +22,7 @@ use Rattle.history.specs.Run.{history, Always, orElse, outputBy, firstOu
 use Rattle.history.specs.Machine.{Equal, Follows, ends, goes}
 use Rattle.history.proofs.Firsts.{or-some, or-assoc, firstCommand, first-of}
 use Rattle.history.proofs.SlotMoves.{machineOf}
-use Rattle.history.proofs.Answers.{chooses-map}
+use Rattle.history.proofs.Choosers.{chooses-map}
 use Rattle.history.proofs.Moments.{Moment, next}
 
 module _ (z : Sizes) where

@@ -2,17 +2,18 @@
 -- step and its answer tell.
 use Prim.Native.Nat.{ℕ}
 use mathlib.Core.Path.{_≡_, refl, _∙_, sym, ap}
-use mathlib.Core.Bool.{true, _&&_}
+use mathlib.Core.Bool.{true, cond}
 use mathlib.Core.List.{_∷_, List·Memᴰ, List·Memᴰ·head}
 use Rattle.state.specs.declared.Answer.{Answer}
 use Rattle.state.specs.declared.Answer.the-variants as answer
-use Rattle.synod.specs.Slot.{Slot, Config, Ghost, Tried, updated, heard, withCommit}
+use Rattle.synod.specs.Rules.{Slot, Config, updated}
+use Rattle.synod.specs.Slot.{Ghost, Tried, heard, withCommit}
 use Rattle.synod.proofs.Agreement.{agree, valid}
 use Rattle.synod.proofs.Ghosts.{tried}
 use Rattle.synod.proofs.Invariant.{Invariant}
 use Rattle.synod.proofs.Outputs.{outputs, offers, told}
 use Rattle.synod.proofs.Update.{updated-at}
-use Rattle.history.specs.Run.{Move, Chooses, Rests, pickMove, committed, outputIn, orElse, given, WhenChooses}
+use Rattle.history.specs.Run.{Move, Chooses, Rests, committed, outputIn, orElse, given, WhenChooses}
 use Rattle.history.specs.Machine.{Machine, Makes}
 use Rattle.history.proofs.Firsts.{or-some, or-zero, firstCommand, first-of}
 
@@ -100,7 +101,7 @@ pub listens
     : (c : Config) (g : Ghost) (σ τ : Slot) (p b : ℕ) (a : Answer) → Invariant c (heard g b a) τ
     → (committed a ≡ true → outputs σ p ≡ 0)
     → ((q : ℕ) → outputs τ q ≡ told (outputs σ) p a q) → ((q : ℕ) → offers τ q ≡ offers σ q)
-    → Moves g σ (pickMove (committed a && true) (Chooses p) Rests) (outputIn (pickMove (committed a && true) (Chooses p) Rests) a) (heard g b a) τ
+    → Moves g σ (cond (committed a) (Chooses p) Rests) (outputIn (cond (committed a) (Chooses p) Rests) a) (heard g b a) τ
 unfolding heard told
 listens c g σ τ p b answer.Done inv none outs offs = quietly g g σ τ refl refl outs offs
 listens c g σ τ p b (answer.Outbid n) inv none outs offs = quietly g g σ τ refl refl outs offs

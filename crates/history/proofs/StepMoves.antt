@@ -1,33 +1,28 @@
 -- Every kind of step, at a slot that it concerns, makes the move that 01 reads off the step and its answer.
 use Prim.Native.Nat.{ℕ}
 use mathlib.Core.Path.{_≡_, refl, _∙_, sym, ap}
-use mathlib.Core.Bool.{true, _&&_, true≢false}
+use mathlib.Core.Bool.{true, true≢false, cond}
 use mathlib.Core.List.{_∷_}
-use lib.Dec.{eqb}
 use Rattle.state.specs.declared.Answer.{Answer}
 use Rattle.state.specs.declared.Answer.the-variants as answer
-use Rattle.state.specs.declared.Server.{Server}
 use Rattle.state.specs.declared.Sizes.{Sizes}
 use Rattle.state.specs.declared.Step.{Step}
 use Rattle.state.specs.declared.Step.the-variants.{Offer, Recall, Rejoin, Bid, Write, Read, Finish, Fail, DriveOff, DriveOn}
 use Rattle.state.specs.Answers.{numberOf}
+use Rattle.state.specs.View.{Stores, Alone, View, AtSlot, viewOf, serverAt}
 use Rattle.synod.specs.declared.Ruling.{Ruling}
 use Rattle.synod.specs.declared.Ruling.the-variants.{Refused, Accepted}
 use Rattle.synod.specs.Arguments.{placesFit}
-use Rattle.synod.specs.Rules.{offerRule}
-use Rattle.synod.specs.Slot.{Slot, Config, Fits, configOf, Ghost, ruled, after, heard, noted}
+use Rattle.synod.specs.Rules.{Slot, Config, configOf, ruled, after, offerSays, ruleOf}
+use Rattle.synod.specs.Slot.{Fits, Ghost, heard, ghostAfter, noted}
 use Rattle.synod.proofs.Invariant.{Invariant}
 use Rattle.synod.proofs.Kept.{kept}
-use Rattle.synod.proofs.Outputs.{outputs, offers, told, outputsAfter, offersAfter, outputs-told, offers-told, committed-by}
-use Rattle.step_laws.specs.Slots.{concerns}
-use Rattle.history.specs.Run.{Offers, Chooses, Fails, Rests, pickMove, committed, moveOf, outputIn, given}
+use Rattle.synod.proofs.Outputs.{outputs, offers, told, outputsAt, outputsAfter, offersAt, offersAfter, outputs-told, offers-told, committed-by}
+use Rattle.step_laws.specs.Slots.{concernsAt, concerns}
+use Rattle.step_laws.proofs.Lowest.{answerBy}
+use Rattle.history.specs.Run.{Move, Offers, Chooses, Fails, Rests, committed, moveAt, moveOf, outputIn, given}
 use Rattle.history.proofs.Firsts.{or-zero, firstCommand}
 use Rattle.history.proofs.SlotMoves.{Moves, rests, listens}
-
--- the answer that goes with a ruling
-abbrev pub answerBy : Ruling → Answer
-answerBy (Refused n) = answer.Refused n
-answerBy (Accepted v a) = a
 
 -- the move and the output of a step in slot t with an answer
 abbrev pub MovesBy : ℕ → Ghost → Slot → Step → Answer → Ghost → Slot → Type 0
@@ -40,73 +35,47 @@ committed-is (answer.Chosen c) e = absurd (true≢false (sym e))
 committed-is (answer.Committed c) e = refl
 committed-is (answer.Refused n) e = absurd (true≢false (sym e))
 
--- the server that a step names; 0 for a drive step
-abbrev serverIn : Step → ℕ
-serverIn (Offer p s c) = p
-serverIn (Recall p s d) = p
-serverIn (Rejoin p s b) = p
-serverIn (Bid p s b) = p
-serverIn (Write p s d) = p
-serverIn (Read p s d q) = p
-serverIn (Finish p s) = p
-serverIn (Fail p) = p
-serverIn (DriveOff d) = 0
-serverIn (DriveOn d) = 0
+-- a view that shows only by a committed answer of its server
+record Listener (w : View) : Type 0 where
+  notes : (g : Ghost) (σ : Slot) (a : Answer) → ghostAfter g σ w a ≡ heard g (σ (serverAt w) .own .mbal) a
+  outs : (f : ℕ → ℕ) (a : Answer) → outputsAt f w a ≡ told f (serverAt w) a
+  offs : (f : ℕ → ℕ) → offersAt f w ≡ f
+  moves : (t : ℕ) (a : Answer) → moveAt t w a ≡ cond (concernsAt t w) (cond (committed a) (Chooses (serverAt w)) Rests) Rests
 
--- a kind that shows only by a committed answer of its server
-record Listener (st : Step) : Type 0 where
-  notes : (g : Ghost) (σ : Slot) (v : Server) (a : Answer) → noted g σ st (Accepted v a) ≡ heard g (σ (serverIn st) .own .mbal) a
-  outs : (f : ℕ → ℕ) (v : Server) (a : Answer) → outputsAfter f st (Accepted v a) ≡ told f (serverIn st) a
-  offs : (f : ℕ → ℕ) (v : Server) (a : Answer) → offersAfter f st (Accepted v a) ≡ f
+alone-listens : (p s : ℕ) → Listener (AtSlot p s Alone)
+alone-listens p s = record { notes = λ g σ a. refl; outs = λ f a. refl; offs = λ f. refl; moves = λ t a. refl }
 
-recall-listens : (p s d : ℕ) → Listener (Recall p s d)
-unfolding noted outputsAfter offersAfter
-recall-listens p s d = record { notes = λ g σ v a. refl; outs = λ f v a. refl; offs = λ f v a. refl }
+store-listens : (p s d : ℕ) → Listener (AtSlot p s (Stores d))
+store-listens p s d = record { notes = λ g σ a. refl; outs = λ f a. refl; offs = λ f. refl; moves = λ t a. refl }
 
-rejoin-listens : (p s b : ℕ) → Listener (Rejoin p s b)
-unfolding noted outputsAfter offersAfter
-rejoin-listens p s b = record { notes = λ g σ v a. refl; outs = λ f v a. refl; offs = λ f v a. refl }
-
-bid-listens : (p s b : ℕ) → Listener (Bid p s b)
-unfolding noted outputsAfter offersAfter
-bid-listens p s b = record { notes = λ g σ v a. refl; outs = λ f v a. refl; offs = λ f v a. refl }
-
-write-listens : (p s d : ℕ) → Listener (Write p s d)
-unfolding noted outputsAfter offersAfter
-write-listens p s d = record { notes = λ g σ v a. refl; outs = λ f v a. refl; offs = λ f v a. refl }
-
-read-listens : (p s d q : ℕ) → Listener (Read p s d q)
-unfolding noted outputsAfter offersAfter
-read-listens p s d q = record { notes = λ g σ v a. refl; outs = λ f v a. refl; offs = λ f v a. refl }
-
-finish-listens : (p s : ℕ) → Listener (Finish p s)
-unfolding noted outputsAfter offersAfter
-finish-listens p s = record { notes = λ g σ v a. refl; outs = λ f v a. refl; offs = λ f v a. refl }
+-- the move of such a view, at a slot that it concerns
+abbrev chosenBy : View → Answer → Move
+chosenBy w a = cond (committed a) (Chooses (serverAt w)) Rests
 
 module _ (c : Config) (off : ℕ) (g : Ghost) (σ : Slot) where
   listened
-      : (st : Step) → Listener st → (x : Ruling) → ruled c off σ st ≡ x → Invariant c (noted g σ st x) (after σ st x)
+      : (st : Step) → Listener (viewOf st) → (x : Ruling) → ruled c off σ st ≡ x → Invariant c (noted g σ st x) (after σ st x)
       → ((q : ℕ) → outputs (after σ st x) q ≡ outputsAfter (outputs σ) st x q)
       → ((q : ℕ) → offers (after σ st x) q ≡ offersAfter (offers σ) st x q)
-      → Moves g σ (pickMove (committed (answerBy x) && true) (Chooses (serverIn st)) Rests)
-      (outputIn (pickMove (committed (answerBy x) && true) (Chooses (serverIn st)) Rests) (answerBy x)) (noted g σ st x) (after σ st x)
-  listened st l (Refused n) e inv outs offs = unfold noted after in rests g σ
+      → Moves g σ (chosenBy (viewOf st) (answerBy x)) (outputIn (chosenBy (viewOf st) (answerBy x)) (answerBy x)) (noted g σ st x) (after σ st x)
+  unfolding noted after outputsAfter offersAfter
+  listened st l (Refused n) e inv outs offs = rests g σ
   listened st l (Accepted v a) e inv outs offs =
-      let p = serverIn st in
-      rw (l .notes g σ v a)
+      let p = serverAt (viewOf st) in
+      rw (l .notes g σ a)
       (listens c g σ (after σ st (Accepted v a)) p (σ p .own .mbal) a
-      (rw (l .notes g σ v a) at inv)
+      (rw (l .notes g σ a) at inv)
       (λ k.
       let by = committed-by c off σ (numberOf a) st v (e ∙ ap (Accepted v) (committed-is a k)) in
-      ap (λ (s : Step). outputs σ (serverIn s)) (by .step) ∙ by .before)
-      (λ q. outs q ∙ ap (λ (f : ℕ → ℕ). f q) (l .outs (outputs σ) v a))
-      (λ q. offs q ∙ ap (λ (f : ℕ → ℕ). f q) (l .offs (offers σ) v a)))
+      ap (λ (s : Step). outputs σ (serverAt (viewOf s))) (by .step) ∙ by .before)
+      (λ q. outs q ∙ ap (λ (f : ℕ → ℕ). f q) (l .outs (outputs σ) a))
+      (λ q. offs q ∙ ap (λ (f : ℕ → ℕ). f q) (l .offs (offers σ))))
 
   -- Offer and Fail show by themselves
   offered
       : (p s v : ℕ)
       → Moves g σ (Offers p v) 0 (noted g σ (Offer p s v) (ruled c off σ (Offer p s v))) (after σ (Offer p s v) (ruled c off σ (Offer p s v)))
-  unfolding ruled offerRule noted heard outputsAfter told offersAfter
+  unfolding ruleOf offerSays noted heard outputsAfter told offersAfter
   offered p s v =
       record {
         makes =
@@ -126,7 +95,7 @@ module _ (c : Config) (off : ℕ) (g : Ghost) (σ : Slot) where
 
   failed
       : (p : ℕ) → Moves g σ (Fails p) 0 (noted g σ (Fail p) (ruled c off σ (Fail p))) (after σ (Fail p) (ruled c off σ (Fail p)))
-  unfolding ruled noted heard outputsAfter offersAfter
+  unfolding ruleOf noted heard outputsAfter offersAfter
   failed p =
       record {
         makes =
@@ -146,26 +115,26 @@ module _ (c : Config) (off : ℕ) (g : Ghost) (σ : Slot) where
 
 module _ (z : Sizes) (fits : Fits (configOf z)) (off : ℕ) (g : Ghost) (σ : Slot) (inv : Invariant (configOf z) g σ) where
   listener
-      : (st : Step) (s t : ℕ) → Listener st → placesFit z st ≡ true → eqb s t ≡ true
-      → Moves g σ (pickMove (committed (answerBy (ruled (configOf z) off σ st)) && eqb s t) (Chooses (serverIn st)) Rests)
-      (outputIn (pickMove (committed (answerBy (ruled (configOf z) off σ st)) && eqb s t) (Chooses (serverIn st)) Rests) (answerBy (ruled (configOf z) off σ st)))
-      (noted g σ st (ruled (configOf z) off σ st)) (after σ st (ruled (configOf z) off σ st))
-  listener st s t l h e =
-      rw e
-      (listened (configOf z) off g σ st l (ruled (configOf z) off σ st) refl (kept z fits off inv st h)
-      (λ q. outputs-told (configOf z) off σ q st) (λ q. offers-told (configOf z) off σ q st))
+      : (st : Step) → Listener (viewOf st) → placesFit z st ≡ true → (t : ℕ) → concerns t st ≡ true
+      → MovesBy t g σ st (answerBy (ruled (configOf z) off σ st)) (noted g σ st (ruled (configOf z) off σ st)) (after σ st (ruled (configOf z) off σ st))
+  unfolding concerns moveOf
+  listener st l h t e =
+      let x = ruled (configOf z) off σ st in
+      rw (l .moves t (answerBy x))
+      (rw e
+      (listened (configOf z) off g σ st l x refl (kept z fits off inv st h)
+      (λ q. outputs-told (configOf z) off σ q st) (λ q. offers-told (configOf z) off σ q st)))
 
   pub concerned
       : (st : Step) → placesFit z st ≡ true → (t : ℕ) → concerns t st ≡ true
       → MovesBy t g σ st (answerBy (ruled (configOf z) off σ st)) (noted g σ st (ruled (configOf z) off σ st)) (after σ st (ruled (configOf z) off σ st))
-  unfolding concerns moveOf
-  concerned (Offer p s v) h t e = unfold ruled offerRule in rw e (offered (configOf z) off g σ p s v)
-  concerned (Recall p s d) h t e = listener (Recall p s d) s t (recall-listens p s d) h e
-  concerned (Rejoin p s b) h t e = listener (Rejoin p s b) s t (rejoin-listens p s b) h e
-  concerned (Bid p s b) h t e = listener (Bid p s b) s t (bid-listens p s b) h e
-  concerned (Write p s d) h t e = listener (Write p s d) s t (write-listens p s d) h e
-  concerned (Read p s d q) h t e = listener (Read p s d q) s t (read-listens p s d q) h e
-  concerned (Finish p s) h t e = listener (Finish p s) s t (finish-listens p s) h e
-  concerned (Fail p) h t e = unfold ruled in failed (configOf z) off g σ p
-  concerned (DriveOff d) h t e = absurd (true≢false (sym e))
-  concerned (DriveOn d) h t e = absurd (true≢false (sym e))
+  concerned (Offer p s v) h t e = unfold concerns moveOf ruleOf offerSays in rw e (offered (configOf z) off g σ p s v)
+  concerned (Recall p s d) h t e = listener (Recall p s d) (alone-listens p s) h t e
+  concerned (Rejoin p s b) h t e = listener (Rejoin p s b) (alone-listens p s) h t e
+  concerned (Bid p s b) h t e = listener (Bid p s b) (alone-listens p s) h t e
+  concerned (Write p s d) h t e = listener (Write p s d) (store-listens p s d) h t e
+  concerned (Read p s d q) h t e = listener (Read p s d q) (alone-listens p s) h t e
+  concerned (Finish p s) h t e = listener (Finish p s) (alone-listens p s) h t e
+  concerned (Fail p) h t e = unfold moveOf ruleOf in failed (configOf z) off g σ p
+  concerned (DriveOff d) h t e = unfold concerns in absurd (true≢false (sym e))
+  concerned (DriveOn d) h t e = unfold concerns in absurd (true≢false (sym e))

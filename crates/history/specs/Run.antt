@@ -1,16 +1,16 @@
 -- A run is its history: the list of steps with their answers (01, "The one-value machine"). What 01 reads off a run is
 -- read off this list, never off the cells; what it says of outputs is compared with them at the end.
 use Prim.Native.Nat.{ℕ}
-use mathlib.Core.Bool.{Bool, true, false, not, _&&_}
+use mathlib.Core.Bool.{Bool, not, cond}
 use mathlib.Core.List.{List, [], _∷_, List·Memᴰ}
 use mathlib.Core.Path.{_≡_}
 use lib.Dec.{eqb}
 use Rattle.state.specs.declared.Answer.{Answer}
 use Rattle.state.specs.declared.Sizes.{Sizes}
 use Rattle.state.specs.declared.Step.{Step}
-use Rattle.state.specs.declared.Step.the-variants.{Offer, Recall, Rejoin, Bid, Write, Read, Finish, Fail, DriveOff, DriveOn}
 use Rattle.state.specs.Answers.{codeOf, numberOf}
-use Rattle.state.specs.Server.{pickNumber, outputOf}
+use Rattle.state.specs.Server.{outputOf}
+use Rattle.state.specs.View.{Deed, Brings, Stores, Alone, View, AtSlot, AtServer, AtDrive, viewOf}
 use Rattle.layout.specs.Cells.{serverOf}
 use Rattle.room.specs.Step.{answered, stepped}
 
@@ -47,28 +47,21 @@ pub data Move : Type 0 where
   Fails : ℕ → Move
   Rests : Move
 
-abbrev pub pickMove : Bool → Move → Move → Move
-pickMove true a b = a
-pickMove false a b = b
-
--- a committed answer of server p in slot s is a Choose there
-abbrev pub choosing : ℕ → ℕ → ℕ → Answer → Move
-choosing t s p a = pickMove (committed a && eqb s t) (Chooses p) Rests
-
+-- A Choose is read off the answer, not off the kind: today only Finish commits. 01:
 -- "Accepted Offer and Fail steps make that move (Offer in the slot named, Fail in every slot), a committed Finish makes
--- Choose(p) in its slot; any other step, and any refusal, none". A Choose is read off the answer and not off the kind:
--- only Finish commits (`only-finish` in step_laws), so that this is the same (`choose-is-finish` in proofs/Chooses).
+-- Choose(p) in its slot; any other step, and any refusal, none"
+abbrev pub deedMove : ℕ → Deed → Answer → Move
+deedMove p (Brings c) a = cond (accepted a) (Offers p c) Rests
+deedMove p (Stores d) a = cond (committed a) (Chooses p) Rests
+deedMove p Alone a = cond (committed a) (Chooses p) Rests
+
+abbrev pub moveAt : ℕ → View → Answer → Move
+moveAt t (AtSlot p s k) a = cond (eqb s t) (deedMove p k a) Rests
+moveAt t (AtServer p) a = cond (accepted a) (Fails p) Rests
+moveAt t (AtDrive d on) a = Rests
+
 unfoldable pub moveOf : ℕ → Step → Answer → Move
-moveOf t (Offer p s v) a = pickMove (accepted a && eqb s t) (Offers p v) Rests
-moveOf t (Recall p s d) a = choosing t s p a
-moveOf t (Rejoin p s b) a = choosing t s p a
-moveOf t (Bid p s b) a = choosing t s p a
-moveOf t (Write p s d) a = choosing t s p a
-moveOf t (Read p s d q) a = choosing t s p a
-moveOf t (Finish p s) a = choosing t s p a
-moveOf t (Fail p) a = pickMove (accepted a) (Fails p) Rests
-moveOf t (DriveOff d) a = Rests
-moveOf t (DriveOn d) a = Rests
+moveOf t st a = moveAt t (viewOf st) a
 
 -- the command with which an answer committed, by the move; 0 where it did not
 abbrev pub outputIn : Move → Answer → ℕ
@@ -82,7 +75,7 @@ outputBy t e = outputIn (moveOf t (e .step) (e .answer)) (e .answer)
 
 -- the first that is not 0
 abbrev pub orElse : ℕ → ℕ → ℕ
-orElse a b = pickNumber (eqb a 0) b a
+orElse a b = cond (eqb a 0) b a
 
 -- "the command of the first committed answer there"; 0 where there is none
 unfoldable pub firstOutput : ℕ → List Event → ℕ

@@ -2,8 +2,8 @@
 ghost use mathlib.Core.Path.{_≡_};
 ghost use Prim.Native.Nat.{_+_, _<_, _≤_};
 ghost use lib.ListN.{length, replicate};
-ghost use Rattle.layout.specs.Places.{Fit, Row, sizesFit, slotLength, roomLength, slotAt, serverAt, blockAt};
-ghost use Rattle.layout.specs.Cells.{sizesOf, serverIn, blockIn, serverOf, blockOf, put, serverCells, blockCells, putServer, putBlock};
+ghost use Rattle.layout.specs.Places.{Fit, Row, sizesFit, slotLength, roomLength, serverAt, blockAt};
+ghost use Rattle.layout.specs.Cells.{sizesOf, serverIn, blockIn, serverOf, blockOf, putServer, putBlock};
 use state::Block;
 use state::Server;
 use state::Sizes;

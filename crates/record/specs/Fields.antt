@@ -1,6 +1,6 @@
 -- A step's kind and fields as numbers, and which kind has which field (01, "The ten steps", "Step records").
 use Prim.Native.Nat.{ℕ, _+_, _<_, _^_}
-use mathlib.Core.Bool.{Bool, true, false}
+use mathlib.Core.Bool.{cond}
 use mathlib.Core.List.{List, [], _∷_}
 use lib.Dec.{eqb}
 use lib.ListN.{getD}
@@ -60,22 +60,18 @@ fieldsOf (Fail p) = fields 8 p 0 0 0 0
 fieldsOf (DriveOff d) = fields 9 0 0 d 0 0
 fieldsOf (DriveOn d) = fields 10 0 0 d 0 0
 
-abbrev pub pickStep : Bool → Step → Step → Step
-pickStep true a b = a
-pickStep false a b = b
-
 -- the step of a kind from 1 to 10 with these fields
 unfoldable pub stepOf : Fields → Step
 stepOf f =
-    pickStep (eqb (f .kind) 1) (Offer (f .server) (f .slot) (f .number))
-    (pickStep (eqb (f .kind) 2) (Recall (f .server) (f .slot) (f .drive))
-    (pickStep (eqb (f .kind) 3) (Rejoin (f .server) (f .slot) (f .number))
-    (pickStep (eqb (f .kind) 4) (Bid (f .server) (f .slot) (f .number))
-    (pickStep (eqb (f .kind) 5) (Write (f .server) (f .slot) (f .drive))
-    (pickStep (eqb (f .kind) 6) (Read (f .server) (f .slot) (f .drive) (f .other))
-    (pickStep (eqb (f .kind) 7) (Finish (f .server) (f .slot))
-    (pickStep (eqb (f .kind) 8) (Fail (f .server))
-    (pickStep (eqb (f .kind) 9) (DriveOff (f .drive))
+    cond (eqb (f .kind) 1) (Offer (f .server) (f .slot) (f .number))
+    (cond (eqb (f .kind) 2) (Recall (f .server) (f .slot) (f .drive))
+    (cond (eqb (f .kind) 3) (Rejoin (f .server) (f .slot) (f .number))
+    (cond (eqb (f .kind) 4) (Bid (f .server) (f .slot) (f .number))
+    (cond (eqb (f .kind) 5) (Write (f .server) (f .slot) (f .drive))
+    (cond (eqb (f .kind) 6) (Read (f .server) (f .slot) (f .drive) (f .other))
+    (cond (eqb (f .kind) 7) (Finish (f .server) (f .slot))
+    (cond (eqb (f .kind) 8) (Fail (f .server))
+    (cond (eqb (f .kind) 9) (DriveOff (f .drive))
     (DriveOn (f .drive))))))))))
 
 -- the five fields in the order of their bits

@@ -1,7 +1,7 @@
 -- The map byte, and what it says of the fields that follow (01, "Step records"). Each definition goes through the
 -- fields in the order of their bits: the low bit of a map is the first field's, its half is the map of the others.
 use Prim.Native.Nat.{ℕ, _+_, _*_, _/_, _%_}
-use mathlib.Core.Bool.{Bool, true, false, _&&_, _||_}
+use mathlib.Core.Bool.{Bool, false, _&&_, _||_, cond}
 use mathlib.Core.List.{List, [], _∷_}
 use lib.Dec.{eqb, ltb}
 use Rattle.record.specs.Fields.{maskOf}
@@ -10,13 +10,9 @@ use Rattle.record.specs.Fields.{maskOf}
 abbrev pub widths : List ℕ
 widths = 1 ∷ 1 ∷ 1 ∷ 1 ∷ 4 ∷ []
 
-abbrev pub pickNumber : Bool → ℕ → ℕ → ℕ
-pickNumber true a b = a
-pickNumber false a b = b
-
 -- "A bit stands exactly when the kind has the field and it isn't 0": has is 1 where the kind has the field, else 0
 abbrev pub bitOf : ℕ → ℕ → ℕ
-bitOf has v = pickNumber (eqb v 0) 0 has
+bitOf has v = cond (eqb v 0) 0 has
 
 -- the map of these fields, of a kind that has the fields of the mask
 unfoldable pub mapOf : ℕ → List ℕ → ℕ

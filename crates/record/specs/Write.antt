@@ -1,6 +1,6 @@
 -- What is written for a step (01, "Step records").
 use Prim.Native.Nat.{ℕ, _*_, _/_, _%_, zero, suc}
-use mathlib.Core.Bool.{Bool, true, false}
+use mathlib.Core.Bool.{cond}
 use mathlib.Core.List.{List, [], _∷_, _++_}
 use lib.Dec.{leb}
 use lib.ListN.{length, drop}
@@ -33,22 +33,14 @@ recordOfFields f = bytesOf (mapOf (maskOf (f .kind)) (valuesOf f)) (f .kind) (va
 unfoldable pub recordOf : Step → List ℕ
 recordOf step = recordOfFields (fieldsOf step)
 
-abbrev pub pickWriting : Bool → Writing → Writing → Writing
-pickWriting true a b = a
-pickWriting false a b = b
-
--- "Write answers the length used"; 2 is "buffer length wrong (.. record write: too short)"
+-- "Write answers the length used"; "2 buffer length wrong (record write: too short)"
 unfoldable pub writingOf : Step → List ℕ → Writing
 writingOf step buffer =
-    pickWriting (leb (length (recordOf step)) (length buffer)) (Encoded (length (recordOf step))) (Refused 2)
-
-abbrev pub pickBytes : Bool → List ℕ → List ℕ → List ℕ
-pickBytes true a b = a
-pickBytes false a b = b
+    cond (leb (length (recordOf step)) (length buffer)) (Encoded (length (recordOf step))) (Refused 2)
 
 -- "and leaves later bytes alone"; a refusal changes none
 unfoldable pub writtenOf : Step → List ℕ → List ℕ
 writtenOf step buffer =
-    pickBytes (leb (length (recordOf step)) (length buffer))
+    cond (leb (length (recordOf step)) (length buffer))
     (recordOf step ++ drop (length (recordOf step)) buffer)
     buffer

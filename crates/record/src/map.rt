@@ -1,8 +1,9 @@
 // The map byte: which fields each kind has, which of them a record has, and how long that makes it.
+ghost use mathlib.Core.Bool.{cond};
 ghost use mathlib.Core.Path.{_≡_};
 ghost use Prim.Native.Nat.{_≤_};
 ghost use Rattle.record.specs.Fields.{maskOf, valuesOf};
-ghost use Rattle.record.specs.Map.{pickNumber, mapOf, recordLength, malformed, zeroAmong};
+ghost use Rattle.record.specs.Map.{mapOf, recordLength, malformed, zeroAmong};
 use crate::fields::Fields;
 
 // The bits of the map byte.
@@ -50,7 +51,7 @@ fn mask_of(kind: u8) -> usize
 
 // A field's bit where it is the lowest: the kind's own bit for the field, and 0 for a field of 0.
 fn bit(has: usize, zero: bool) -> usize
-    ensures { λ r. ⌜ (r ≡ pickNumber zero 0 has) × (r ≤ has) ⌝ }
+    ensures { λ r. ⌜ (r ≡ cond zero 0 has) × (r ≤ has) ⌝ }
 {
     if zero {
         return 0;

@@ -2,7 +2,7 @@
 use Prim.Native.Nat.{ℕ}
 use mathlib.Core.Bool.{true, false}
 use mathlib.Core.List.{List}
-use mathlib.Core.Path.{_≡_, _∙_, sym, ap}
+use mathlib.Core.Path.{_≡_, _∙_, ap}
 use Rattle.state.specs.declared.Step.{Step}
 use Rattle.record.specs.declared.Writing.{Writing}
 use Rattle.record.specs.declared.Writing.the-variants.{Refused}

@@ -1,13 +1,12 @@
 -- The calls of C that are not one call of the register: the length of a room, a step given by its record, and a record
 -- written from a step's fields.
 use Prim.Native.Nat.{ℕ}
-use mathlib.Core.Bool.{Bool, _&&_}
+use mathlib.Core.Bool.{Bool, _&&_, cond}
 use mathlib.Core.List.{List}
 use lib.Dec.{leb}
 use Rattle.state.specs.declared.Sizes.{Sizes}
 use Rattle.state.specs.declared.Answer.{Answer}
 use Rattle.state.specs.declared.Answer.the-variants as answer
-use Rattle.state.specs.Server.{pickNumber}
 use Rattle.layout.specs.Places.{sizesFit, roomLength}
 use Rattle.record.specs.declared.Reading.{Reading}
 use Rattle.record.specs.declared.Reading.the-variants as reading
@@ -15,7 +14,7 @@ use Rattle.record.specs.declared.Writing.{Writing}
 use Rattle.record.specs.declared.Writing.the-variants as writing
 use Rattle.state.specs.declared.Step.{Step}
 use Rattle.record.specs.Fields.{fields, stepOf}
-use Rattle.record.specs.Write.{pickWriting, writingOf, pickBytes, writtenOf}
+use Rattle.record.specs.Write.{writingOf, writtenOf}
 use Rattle.room.specs.Step.{answered, stepped}
 
 abbrev pub sizes : ℕ → ℕ → ℕ → Sizes
@@ -23,7 +22,7 @@ sizes n d s = record { servers = n; drives = d; slots = s }
 
 -- the cells of a room, 0 where the sizes do not fit
 abbrev pub lengthOf : Sizes → ℕ
-lengthOf z = pickNumber (sizesFit z) (roomLength z) 0
+lengthOf z = cond (sizesFit z) (roomLength z) 0
 
 -- a record that cannot be read is refused with the number that reading gives
 abbrev pub recordAnswered : List ℕ → Reading → Answer
@@ -45,7 +44,7 @@ stepBy kind p s d q n = stepOf (fields kind p s d q n)
 
 -- a step's record; a kind that is none of the ten is malformed, 15
 abbrev pub kindWriting : ℕ → Step → List ℕ → Writing
-kindWriting kind step buffer = pickWriting (kindKnown kind) (writingOf step buffer) (writing.Refused 15)
+kindWriting kind step buffer = cond (kindKnown kind) (writingOf step buffer) (writing.Refused 15)
 
 abbrev pub kindWritten : ℕ → Step → List ℕ → List ℕ
-kindWritten kind step buffer = pickBytes (kindKnown kind) (writtenOf step buffer) buffer
+kindWritten kind step buffer = cond (kindKnown kind) (writtenOf step buffer) buffer

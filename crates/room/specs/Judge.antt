@@ -4,16 +4,15 @@ use Prim.Native.Nat.{ℕ}
 use mathlib.Core.Bool.{Bool, true, false}
 use mathlib.Core.List.{List}
 use Rattle.command.specs.Command.{cabinetLimits}
-use Rattle.quorum.specs.Marks.{marked, unmarked}
 use Rattle.state.specs.declared.Answer.{Answer}
 use Rattle.state.specs.declared.Answer.the-variants as answer
 use Rattle.state.specs.declared.Sizes.{Sizes}
 use Rattle.state.specs.declared.Step.{Step}
-use Rattle.state.specs.declared.Step.the-variants.{Offer, Recall, Rejoin, Bid, Write, Read, Finish, Fail, DriveOff, DriveOn}
+use Rattle.state.specs.View.{Brings, Stores, Alone, View, AtSlot, AtServer, AtDrive, viewOf, slotAt}
 use Rattle.synod.specs.declared.Ruling.{Ruling}
-use Rattle.synod.specs.declared.Ruling.the-variants as ruling
+use Rattle.synod.specs.declared.Ruling.the-variants as said
 use Rattle.synod.specs.Arguments.{placesFit, commandFits}
-use Rattle.synod.specs.Rules.{offerRule, recallRule, rejoinRule, bidRule, writeRule, readRule, finishRule}
+use Rattle.synod.specs.Rules.{Rule, ruling, Slot, configOf, ruleOf, offAfter}
 use Rattle.layout.specs.Cells.{sizesOf, offOf, serverOf, blockOf}
 use Rattle.range.specs.Range.{inRange}
 use Rattle.room.specs.declared.effect.Effect.{Effect}
@@ -30,27 +29,32 @@ check false n rest = effect.Refused n
 
 -- what a ruling makes of the record of server p in slot s
 abbrev pub recording : ℕ → ℕ → Ruling → Effect
-recording s p (ruling.Refused n) = effect.Refused n
-recording s p (ruling.Accepted v a) = effect.Record s p v a
+recording s p (said.Refused n) = effect.Refused n
+recording s p (said.Accepted v a) = effect.Record s p v a
 
 -- the same for a Write, whose block is stored too
 abbrev pub blocking : ℕ → ℕ → ℕ → Ruling → Effect
-blocking s d p (ruling.Refused n) = effect.Refused n
-blocking s d p (ruling.Accepted v a) = effect.Block s d p v
+blocking s d p (said.Refused n) = effect.Refused n
+blocking s d p (said.Accepted v a) = effect.Block s d p v
 
--- each kind by its rule
+-- slot t of the cells, as its machine sees it
+abbrev pub seen : Sizes → List ℕ → ℕ → Slot
+seen z cells t = λ p. record { own = serverOf z cells t p; disk = λ d. blockOf z cells t d p }
+
+-- where a ruling and the off marks are to be stored
+abbrev pub effectAt : View → ℕ → Ruling → Effect
+effectAt (AtSlot p s (Brings c)) off x = recording s p x
+effectAt (AtSlot p s (Stores d)) off x = blocking s d p x
+effectAt (AtSlot p s Alone) off x = recording s p x
+effectAt (AtServer p) off x = effect.Failure p
+effectAt (AtDrive d on) off x = effect.Off off
+
+-- the rule of the step's kind, at the slot that it names
+abbrev pub ruleAt : Sizes → List ℕ → Step → Rule
+ruleAt z cells st = ruleOf (configOf z) (offOf cells) (seen z cells (slotAt (viewOf st))) st
+
 unfoldable pub ruled : Sizes → List ℕ → Step → Effect
-ruled z cells (Offer p s command) = recording s p (offerRule (serverOf z cells s p) command)
-ruled z cells (Recall p s d) = recording s p (recallRule (offOf cells) (serverOf z cells s p) (blockOf z cells s d p) p d)
-ruled z cells (Rejoin p s ballot) = recording s p (rejoinRule (z .servers) (z .drives) (serverOf z cells s p) p ballot)
-ruled z cells (Bid p s ballot) = recording s p (bidRule (z .servers) (serverOf z cells s p) p ballot)
-ruled z cells (Write p s d) = blocking s d p (writeRule (offOf cells) (serverOf z cells s p) d)
-ruled z cells (Read p s d q) =
-    recording s p (readRule (z .servers) (offOf cells) (serverOf z cells s p) (blockOf z cells s d q) p d q)
-ruled z cells (Finish p s) = recording s p (finishRule (z .servers) (z .drives) (serverOf z cells s p) p)
-ruled z cells (Fail p) = effect.Failure p
-ruled z cells (DriveOff d) = effect.Off (marked (offOf cells) d)
-ruled z cells (DriveOn d) = effect.Off (unmarked (offOf cells) d)
+ruled z cells st = effectAt (viewOf st) (offAfter (offOf cells) (viewOf st)) (ruling (ruleAt z cells st))
 
 unfoldable pub judged : List ℕ → Step → Effect
 judged cells step =

@@ -2,7 +2,6 @@
 ghost use mathlib.Core.Path.{_≡_};
 ghost use mathlib.Core.Bool.{true};
 ghost use Rattle.layout.specs.Places.{Row};
-ghost use Rattle.layout.specs.Cells.{sizesOf};
 ghost use Rattle.synod.specs.Arguments.{placesFit};
 ghost use Rattle.room.specs.Judge.{recording, blocking, ruled, judged, answerOf};
 use layout::block;

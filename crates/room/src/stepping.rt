@@ -1,9 +1,8 @@
 // One step on a lent room.
 ghost use mathlib.Core.Path.{_≡_};
-ghost use Prim.Native.Nat.{_<_, _≤_};
+ghost use Prim.Native.Nat.{_<_};
 ghost use Rattle.layout.specs.Places.{Row};
 ghost use Rattle.layout.specs.Cells.{sizesOf};
-ghost use Rattle.room.specs.Judge.{judged};
 ghost use Rattle.room.specs.Ready.{Ready};
 ghost use Rattle.room.specs.Step.{failedBelow, settled, answered, stepped};
 use crate::effect::Effect;

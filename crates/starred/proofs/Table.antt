@@ -10,7 +10,8 @@ use Rattle.quorum.specs.Marks.{stands, marked}
 use Rattle.quorum.specs.Sets.{allBelow, size, gathered, majority, within}
 use Rattle.synod.specs.Arguments.{placesFit, commandFits}
 use Rattle.synod.specs.Changes.{offering, meeting, marking, topping, recalling, rejoining, bidding, writing, reading, proposing}
-use Rattle.synod.specs.Rules.{must, offerRule, recallRule, rejoinRule, bidRule, writeRule, outbidRule, readRule, finishRule}
+use Rattle.synod.specs.Rules as machine
+use Rattle.synod.specs.Rules.{must, bidSays, finishSays, offerSays, outbidSays, readSays, recallSays, rejoinSays, writeSays}
 use Rattle.layout.specs.Places.{slotLength, roomLength, slotAt, serverAt, nthBlockAt, blockAt, sizesFit}
 use Rattle.layout.specs.Cells.{serverOf, putServer, blockOf, putBlock}
 use Rattle.range.specs.Range.{legalDrives, legalReads, valueFits, numbersFit, serverFits, blockFits, serversFit, blocksFit, slotFits, cellsFit, inRange}
@@ -29,10 +30,10 @@ unfolding allHold starred holds newRoom own onDrive sameAnswer sameBlock follows
     limitOf hoardFits isCommand owned leastAbove nextOwn stands marked allBelow size gathered majority within
     placesFit commandFits
     offering meeting marking topping recalling rejoining bidding writing reading proposing
-    must offerRule recallRule rejoinRule bidRule writeRule outbidRule readRule finishRule
+    must offerSays recallSays rejoinSays bidSays writeSays outbidSays readSays finishSays
     slotLength roomLength slotAt serverAt nthBlockAt blockAt sizesFit serverOf putServer blockOf putBlock
     legalDrives legalReads valueFits numbersFit serverFits blockFits serversFit blocksFit slotFits cellsFit inRange
-    openedCells opening opened check ruled judged failedBelow settled answered stepped
+    openedCells opening opened check ruled machine.ruleOf judged failedBelow settled answered stepped
 starred-hold = refl
 
 each : (cases : List Case) → allHold cases ≡ true → (i : ℕ) → Says (caseAt cases i)

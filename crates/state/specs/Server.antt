@@ -1,6 +1,6 @@
 -- The server record and what it shows (01, "The room in memory", "The ten steps", "The one-value machine").
 use Prim.Native.Nat.{ℕ}
-use mathlib.Core.Bool.{Bool, true, false}
+use mathlib.Core.Bool.{cond}
 use lib.Dec.{eqb}
 use Rattle.state.specs.declared.Block.{Block}
 use Rattle.state.specs.declared.Server.{Server}
@@ -46,13 +46,9 @@ failed =
 abbrev pub ownBlock : Server → Block
 ownBlock v = record { mbal = v .mbal; bal = v .bal; inp = v .inp }
 
-abbrev pub pickNumber : Bool → ℕ → ℕ → ℕ
-pickNumber true a b = a
-pickNumber false a b = b
-
 -- "a room's output is inp in phase 3 if that isn't 0, else none": 0 is none
 abbrev pub outputOf : Server → ℕ
-outputOf v = pickNumber (eqb (v .phase) 3) (v .inp) 0
+outputOf v = cond (eqb (v .phase) 3) (v .inp) 0
 
 -- "its offer is the offer cell, 0 being none"
 abbrev pub offerOf : Server → ℕ

@@ -1,6 +1,6 @@
--- Only a Finish commits, on every row.
+-- On every row, reached by a run or not, only a Finish is answered committed.
 use Prim.Native.Nat.{ℕ}
-use mathlib.Core.Path.{_≡_, refl}
+use mathlib.Core.Path.{_≡_, refl, sym, subst}
 use mathlib.Core.List.{List}
 use native.Mathlib.Omega.{arith}
 use Rattle.state.specs.declared.Answer.{Answer}
@@ -8,15 +8,17 @@ use Rattle.state.specs.declared.Sizes.{Sizes}
 use Rattle.state.specs.declared.Step.{Step}
 use Rattle.state.specs.declared.Step.the-variants.{Offer, Recall, Rejoin, Bid, Write, Read, Finish, Fail, DriveOff, DriveOn}
 use Rattle.state.specs.Answers.{codeOf}
-use Rattle.synod.specs.Rules.{offerRule}
-use Rattle.synod.proofs.Rulings.{recall-cases, rejoin-cases, bid-cases, write-cases, read-cases}
-use Rattle.layout.specs.Cells.{sizesOf, serverOf}
+use Rattle.state.specs.View.{viewOf, slotAt}
+use Rattle.synod.specs.declared.Ruling.{Ruling}
+use Rattle.synod.specs.Rules.{offerSays, recallSays, rejoinSays, bidSays, writeSays, outbidSays, readSays, finishSays, ruling, Slot, Config, configOf, ruleOf}
+use Rattle.synod.proofs.Rulings.{AllDo, all-do, plain}
+use Rattle.layout.specs.Cells.{sizesOf, offOf}
 use Rattle.room.specs.declared.effect.Effect.{Effect}
-use Rattle.room.specs.Judge.{recording, blocking, ruled, answerOf}
+use Rattle.room.specs.Judge.{seen, ruleAt, ruled, answerOf}
 use Rattle.room.specs.Step.{answered}
 use Rattle.room.proofs.Checks.{by-checks}
+use Rattle.step_laws.proofs.Lowest.{answerBy, effect-answer}
 
--- the step is a Finish
 pub record Finishes (st : Step) : Type 0 where
   pub server : ℕ
   pub slot : ℕ
@@ -26,28 +28,28 @@ abbrev Commits : Step → Answer → Type 0
 Commits st a = codeOf a ≡ 3 → Finishes st
 
 -- what a kind's own rule answers: done or outbid, but for a Finish
+rule-commits : (c : Config) (off : ℕ) (σ : Slot) (st : Step) → AllDo (λ v a. Commits st a) (ruleOf c off σ st)
+unfolding ruleOf offerSays recallSays rejoinSays bidSays writeSays outbidSays readSays finishSays
+rule-commits c off σ (Offer p s v) = λ e. absurd (omega arith)
+rule-commits c off σ (Recall p s d) = λ e. absurd (omega arith)
+rule-commits c off σ (Rejoin p s b) = λ e. absurd (omega arith)
+rule-commits c off σ (Bid p s b) = λ e. absurd (omega arith)
+rule-commits c off σ (Write p s d) = λ e. absurd (omega arith)
+rule-commits c off σ (Read p s d q) = (λ e. absurd (omega arith), λ e. absurd (omega arith))
+rule-commits c off σ (Finish p s) =
+    let is : Finishes (Finish p s) = record { server = p; slot = s; is = refl } in
+    (λ e. is, λ e. is)
+rule-commits c off σ (Fail p) = λ e. absurd (omega arith)
+rule-commits c off σ (DriveOff d) = λ e. absurd (omega arith)
+rule-commits c off σ (DriveOn d) = λ e. absurd (omega arith)
+
 ruled-commits : (z : Sizes) (cells : List ℕ) (st : Step) → Commits st (answerOf (ruled z cells st))
-unfolding ruled offerRule
-ruled-commits z cells (Offer p s c) = λ e. absurd (omega arith)
-ruled-commits z cells (Recall p s d) =
-    recall-cases (λ x. Commits (Recall p s d) (answerOf (recording s p x))) (λ n e. absurd (omega arith))
-    (serverOf z cells s p) _ _ p d (λ h e. absurd (omega arith))
-ruled-commits z cells (Rejoin p s b) =
-    rejoin-cases (λ x. Commits (Rejoin p s b) (answerOf (recording s p x))) (λ n e. absurd (omega arith))
-    (serverOf z cells s p) _ _ p b (λ o h m t e. absurd (omega arith))
-ruled-commits z cells (Bid p s b) =
-    bid-cases (λ x. Commits (Bid p s b) (answerOf (recording s p x))) (λ n e. absurd (omega arith))
-    (serverOf z cells s p) _ p b (λ o h u e. absurd (omega arith))
-ruled-commits z cells (Write p s d) =
-    write-cases (λ x. Commits (Write p s d) (answerOf (blocking s d p x))) (λ n e. absurd (omega arith))
-    (serverOf z cells s p) _ d (λ h e. absurd (omega arith))
-ruled-commits z cells (Read p s d q) =
-    read-cases (λ x. Commits (Read p s d q) (answerOf (recording s p x))) (λ n e. absurd (omega arith))
-    (serverOf z cells s p) _ _ _ p d q (λ h w m e. absurd (omega arith)) (λ b h o u e. absurd (omega arith))
-ruled-commits z cells (Finish p s) = λ e. record { server = p; slot = s; is = refl }
-ruled-commits z cells (Fail p) = λ e. absurd (omega arith)
-ruled-commits z cells (DriveOff d) = λ e. absurd (omega arith)
-ruled-commits z cells (DriveOn d) = λ e. absurd (omega arith)
+unfolding ruled
+ruled-commits z cells st =
+    let σ = seen z cells (slotAt (viewOf st)) in
+    let x = ruleAt z cells st in
+    subst (Commits st) (sym (effect-answer (viewOf st) _ (ruling x) (plain (configOf z) (offOf cells) σ st)))
+    (all-do (λ (y : Ruling). Commits st (answerBy y)) (λ n e. absurd (omega arith)) x (rule-commits (configOf z) (offOf cells) σ st))
 
 -- a committed answer is a Finish's
 pub only-finish : (cells : List ℕ) (st : Step) → codeOf (answered cells st) ≡ 3 → Finishes st

@@ -4,15 +4,15 @@ use mathlib.Core.Path.{_≡_}
 use mathlib.Core.Bool.{false}
 use mathlib.Core.List.{List}
 use Rattle.state.specs.declared.Step.{Step}
-use Rattle.synod.specs.Slot.{configOf}
+use Rattle.synod.specs.Rules.{configOf}
 use Rattle.synod.proofs.Alike.{Alike, alike-same}
 use Rattle.layout.specs.Cells.{sizesOf}
 use Rattle.range.proofs.Laws.{range-says}
 use Rattle.room.specs.declared.effect.Effect.{Effect}
-use Rattle.room.specs.Judge.{limitsOf}
+use Rattle.room.specs.Judge.{seen, limitsOf}
 use Rattle.room.specs.Step.{settled, stepped}
 use Rattle.room.proofs.Checks.{by-checks}
-use Rattle.step_laws.specs.Slots.{seen, concerns, afterAt}
+use Rattle.step_laws.specs.Slots.{concerns, afterAt}
 use Rattle.step_laws.proofs.SlotTie.{slot-tie}
 
 pub slot-kept

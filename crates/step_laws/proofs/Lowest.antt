@@ -2,84 +2,101 @@
 -- accepted.
 use Prim.Native.Nat.{ℕ, _<_, _≤_}
 use mathlib.Core.Path.{_≡_, refl, _∙_, sym, ap}
-use mathlib.Core.Bool.{Bool, true, false, not, _&&_, Bool·not-not}
+use mathlib.Core.Bool.{Bool, true, false, _&&_, cond}
 use mathlib.Core.List.{List, [], _∷_, List·Memᴰ, List·Memᴰ·cases-cons, List·Memᴰ·not-nil}
 use mathlib.Core.Logic.{_⊎_, inl, inr}
 use native.Mathlib.Omega.{arith}
 use lib.Dec.{ltb}
 use borrow.Author.Tests.{ltb-true}
 use Rattle.lemmas.proofs.Tests.{by-test, and-left, and-right}
-use Rattle.ballot.specs.declared.Next.{Next}
-use Rattle.ballot.specs.declared.Next.the-variants.{Ballot, Spent}
-use Rattle.state.specs.declared.Server.{Server}
+use Rattle.state.specs.declared.Answer.{Answer}
+use Rattle.state.specs.declared.Answer.the-variants as answer
 use Rattle.state.specs.declared.Sizes.{Sizes}
 use Rattle.state.specs.declared.Step.{Step}
 use Rattle.state.specs.declared.Step.the-variants.{Offer, Recall, Rejoin, Bid, Write, Read, Finish, Fail, DriveOff, DriveOn}
 use Rattle.state.specs.Answers.{stepRefusal}
-use Rattle.state.specs.Server.{pickNumber}
+use Rattle.state.specs.View.{Brings, Stores, Alone, View, AtSlot, AtServer, AtDrive, viewOf, slotAt}
 use Rattle.synod.specs.declared.Ruling.{Ruling}
-use Rattle.synod.specs.declared.Ruling.the-variants as ruling
-use Rattle.synod.specs.Rules.{must, pickRuling, outbidRule, offerRule, recallRule, rejoinRule, bidRule, writeRule, readRule, finishRule}
-use Rattle.synod.proofs.Rulings.{recall-cases, rejoin-cases, bid-cases, write-cases, read-cases, finish-cases}
-use Rattle.layout.specs.Cells.{sizesOf, serverOf}
+use Rattle.synod.specs.declared.Ruling.the-variants.{Refused, Accepted}
+use Rattle.synod.specs.Rules.{must, Rule, Must, Either, Does, ruling, offerSays, recallSays, rejoinSays, bidSays, writeSays, outbidSays, readSays, finishSays, Slot, Config, configOf, ruleOf}
+use Rattle.synod.proofs.Rulings.{AllDo, all-do, Plain, plain}
+use Rattle.layout.specs.Cells.{sizesOf, offOf}
 use Rattle.room.specs.declared.effect.Effect.{Effect}
-use Rattle.room.specs.Judge.{recording, blocking, ruled, answerOf}
+use Rattle.room.specs.Judge.{seen, effectAt, ruleAt, ruled, answerOf}
 use Rattle.room.specs.Step.{settled, answered, stepped}
 use Rattle.room.proofs.Checks.{by-checks}
-use Rattle.step_laws.specs.Refusals.{isSpent, Refusal, laterRefusals, refusals, lowest}
+use Rattle.step_laws.specs.Refusals.{Refusal, refusalsIn, refusals, lowest}
 
--- the number of a ruling; an accepted one has none
-abbrev refusalBy : Ruling → ℕ
-refusalBy (ruling.Refused n) = n
-refusalBy (ruling.Accepted v a) = stepRefusal a
+-- the answer that goes with a ruling
+abbrev pub answerBy : Ruling → Answer
+answerBy (Refused n) = answer.Refused n
+answerBy (Accepted v a) = a
 
-must-number : (b : Bool) (n : ℕ) (rest : Ruling) → refusalBy (must b n rest) ≡ pickNumber (not b) n (refusalBy rest)
-unfolding must
-must-number true n rest = refl
-must-number false n rest = refl
+-- it is the answer of the effect
+pub effect-answer : (w : View) (off : ℕ) (x : Ruling) → Plain w x → answerOf (effectAt w off x) ≡ answerBy x
+effect-answer (AtSlot p s (Brings c)) off (Refused n) k = refl
+effect-answer (AtSlot p s (Brings c)) off (Accepted v a) k = refl
+effect-answer (AtSlot p s (Stores d)) off (Refused n) k = refl
+effect-answer (AtSlot p s (Stores d)) off (Accepted v a) k = sym k
+effect-answer (AtSlot p s Alone) off (Refused n) k = refl
+effect-answer (AtSlot p s Alone) off (Accepted v a) k = refl
+effect-answer (AtServer p) off x k = sym (ap answerBy k)
+effect-answer (AtDrive d on) off x k = sym (ap answerBy k)
 
-record-number : (s p : ℕ) (x : Ruling) → stepRefusal (answerOf (recording s p x)) ≡ refusalBy x
-record-number s p (ruling.Refused n) = refl
-record-number s p (ruling.Accepted v a) = refl
+-- what a rule does at the end is never answered with a refusal
+abbrev Sound : Rule → Type 0
+Sound r = AllDo (λ v a. stepRefusal a ≡ 0) r
 
-outbid-number : (v : Server) (found : ℕ) (next : Next) → refusalBy (outbidRule v found next) ≡ pickNumber (isSpent next) 13 0
-unfolding outbidRule
-outbid-number v found (Ballot b) = refl
-outbid-number v found Spent = refl
+-- the ways that are not open refuse nothing
+closed : (r : Rule) (rest : List Refusal) → lowest (refusalsIn false r rest) ≡ lowest rest
+unfolding lowest
+closed (Must b n r) rest = closed r rest
+closed (Either t x y) rest = closed x (refusalsIn false y rest) ∙ closed y rest
+closed (Does v a) rest = refl
 
--- a choice between two rulings
-pick-number : (t : Bool) (x y : Ruling) → refusalBy (pickRuling t x y) ≡ pickNumber t (refusalBy x) (refusalBy y)
-pick-number true x y = refl
-pick-number false x y = refl
+-- a rule refuses with the first of its conditions that fails
+rule-lowest
+    : (r : Rule) (rest : List Refusal) → lowest rest ≡ 0 → Sound r → stepRefusal (answerBy (ruling r)) ≡ lowest (refusalsIn true r rest)
+unfolding lowest must
+rule-lowest (Must true n r) rest h s = rule-lowest r rest h s
+rule-lowest (Must false n r) rest h s = refl
+rule-lowest (Either true x y) rest h s = rule-lowest x (refusalsIn false y rest) (closed y rest ∙ h) (s .0)
+rule-lowest (Either false x y) rest h s = rule-lowest y rest h (s .1) ∙ sym (closed x (refusalsIn true y rest))
+rule-lowest (Does v a) rest h s = s ∙ sym h
 
-spent-number : (t u : Bool) → pickNumber t 0 (pickNumber u 13 0) ≡ pickNumber (not t && u) 13 0
-spent-number true u = refl
-spent-number false u = refl
+-- the numbers of a list rise, from above n on
+abbrev pub rises : ℕ → List Refusal → Bool
+rises n [] = true
+rises n (r ∷ rs) = ltb n (r .number) && rises (r .number) rs
 
-try-number : (t u : Bool) → pickNumber t (pickNumber u 12 0) 0 ≡ pickNumber (t && u) 12 0
-try-number true u = refl
-try-number false u = refl
+-- every kind's rule is such, and the numbers of its conditions rise above 5
+record Kind (r : Rule) : Type 0 where
+  sound : Sound r
+  rising : rises 5 (refusalsIn true r []) ≡ true
 
-write-number
-    : (s d p off : ℕ) (v : Server)
-    → stepRefusal (answerOf (blocking s d p (writeRule off v d))) ≡ refusalBy (writeRule off v d)
-write-number s d p off v =
-    write-cases (λ x. stepRefusal (answerOf (blocking s d p x)) ≡ refusalBy x) (λ n. refl) v off d (λ b. refl)
+kind : (c : Config) (off : ℕ) (σ : Slot) (st : Step) → Kind (ruleOf c off σ st)
+unfolding ruleOf offerSays recallSays rejoinSays bidSays writeSays outbidSays readSays finishSays
+kind c off σ (Offer p s v) = record { sound = refl; rising = refl }
+kind c off σ (Recall p s d) = record { sound = refl; rising = refl }
+kind c off σ (Rejoin p s b) = record { sound = refl; rising = refl }
+kind c off σ (Bid p s b) = record { sound = refl; rising = refl }
+kind c off σ (Write p s d) = record { sound = refl; rising = refl }
+kind c off σ (Read p s d q) = record { sound = (refl, refl); rising = refl }
+kind c off σ (Finish p s) = record { sound = (refl, refl); rising = refl }
+kind c off σ (Fail p) = record { sound = refl; rising = refl }
+kind c off σ (DriveOff d) = record { sound = refl; rising = refl }
+kind c off σ (DriveOn d) = record { sound = refl; rising = refl }
 
--- each kind's rule refuses with the first of its conditions that fails
-ruled-lowest : (z : Sizes) (cells : List ℕ) (st : Step) → stepRefusal (answerOf (ruled z cells st)) ≡ lowest (laterRefusals z cells st)
-unfolding ruled laterRefusals lowest offerRule recallRule rejoinRule bidRule writeRule readRule finishRule
-ruled-lowest z cells (Offer p s c) = refl
-ruled-lowest z cells (Recall p s d) = simp (record-number, must-number, Bool·not-not)
-ruled-lowest z cells (Rejoin p s b) = simp (record-number, must-number)
-ruled-lowest z cells (Bid p s b) = simp (record-number, must-number)
-ruled-lowest z cells (Write p s d) = write-number s d p _ (serverOf z cells s p) ∙ simp (must-number, Bool·not-not)
-ruled-lowest z cells (Read p s d q) =
-    simp (record-number, must-number, pick-number, outbid-number, spent-number, Bool·not-not)
-ruled-lowest z cells (Finish p s) = simp (record-number, must-number, pick-number, try-number, Bool·not-not)
-ruled-lowest z cells (Fail p) = refl
-ruled-lowest z cells (DriveOff d) = refl
-ruled-lowest z cells (DriveOn d) = refl
+kind-at : (z : Sizes) (cells : List ℕ) (st : Step) → Kind (ruleAt z cells st)
+kind-at z cells st = kind (configOf z) (offOf cells) (seen z cells (slotAt (viewOf st))) st
+
+ruled-lowest
+    : (z : Sizes) (cells : List ℕ) (st : Step) → stepRefusal (answerOf (ruled z cells st)) ≡ lowest (refusalsIn true (ruleAt z cells st) [])
+unfolding ruled lowest
+ruled-lowest z cells st =
+    let x = ruleAt z cells st in
+    ap stepRefusal (effect-answer (viewOf st) _ (ruling x) (plain (configOf z) (offOf cells) (seen z cells (slotAt (viewOf st))) st))
+    ∙ rule-lowest x [] refl (kind-at z cells st .sound)
 
 -- the answer refuses with the lowest number that applies, and with none where none applies
 pub answer-lowest : (cells : List ℕ) (st : Step) → stepRefusal (answered cells st) ≡ lowest (refusals cells st)
@@ -92,28 +109,9 @@ answer-lowest cells st =
     (λ a b c. simp (a, b, c))
     (λ a b c. simp (a, b, c) (ruled-lowest (sizesOf cells) cells st))
 
--- the numbers of a list rise, from above n on
-abbrev pub rises : ℕ → List Refusal → Bool
-rises n [] = true
-rises n (r ∷ rs) = ltb n (r .number) && rises (r .number) rs
-
--- whatever comes before, the refusals of a kind's own rule rise above 5
-later-rising : (z : Sizes) (cells : List ℕ) (st : Step) → rises 5 (laterRefusals z cells st) ≡ true
-unfolding laterRefusals
-later-rising z cells (Offer p s c) = refl
-later-rising z cells (Recall p s d) = refl
-later-rising z cells (Rejoin p s b) = refl
-later-rising z cells (Bid p s b) = refl
-later-rising z cells (Write p s d) = refl
-later-rising z cells (Read p s d q) = refl
-later-rising z cells (Finish p s) = refl
-later-rising z cells (Fail p) = refl
-later-rising z cells (DriveOff d) = refl
-later-rising z cells (DriveOn d) = refl
-
 pub rising : (cells : List ℕ) (st : Step) → rises 0 (refusals cells st) ≡ true
 unfolding refusals
-rising cells st = later-rising (sizesOf cells) cells st
+rising cells st = kind-at (sizesOf cells) cells st .rising
 
 -- so every other that applies is above n, and at least the first
 pub record Above (n first m : ℕ) : Type 0 where
@@ -134,7 +132,7 @@ lowest-first n (x ∷ rs) up r m e =
 
     go
         : (r ≡ x) ⊎ List·Memᴰ r rs → (List·Memᴰ r rs → r .applies ≡ true → Above (x .number) (lowest rs) (r .number))
-        → Above n (pickNumber (x .applies) (x .number) (lowest rs)) (r .number)
+        → Above n (cond (x .applies) (x .number) (lowest rs)) (r .number)
     go (inl s) rest =
         let k = h in
         let same : x .number ≡ r .number = ap (λ (y : Refusal). y .number) (sym s) in
@@ -151,26 +149,25 @@ lowest-first n (x ∷ rs) up r m e =
 abbrev Stays : Sizes → List ℕ → Effect → Type 0
 Stays z cells e = (stepRefusal (answerOf e) ≡ 0 → ⊥) → settled z cells e ≡ cells
 
+abbrev NotRefusing : Ruling → Type 0
+NotRefusing (Refused n) = Unit {0}
+NotRefusing (Accepted v a) = stepRefusal a ≡ 0
+
+view-leaves : (z : Sizes) (cells : List ℕ) (w : View) (off : ℕ) (x : Ruling) → NotRefusing x → Stays z cells (effectAt w off x)
+unfolding settled
+view-leaves z cells (AtSlot p s (Brings c)) off (Refused n) k = λ m. refl
+view-leaves z cells (AtSlot p s (Brings c)) off (Accepted v a) k = λ m. absurd (m k)
+view-leaves z cells (AtSlot p s (Stores d)) off (Refused n) k = λ m. refl
+view-leaves z cells (AtSlot p s (Stores d)) off (Accepted v a) k = λ m. absurd (m refl)
+view-leaves z cells (AtSlot p s Alone) off (Refused n) k = λ m. refl
+view-leaves z cells (AtSlot p s Alone) off (Accepted v a) k = λ m. absurd (m k)
+view-leaves z cells (AtServer p) off x k = λ m. absurd (m refl)
+view-leaves z cells (AtDrive d on) off x k = λ m. absurd (m refl)
+
 ruled-leaves : (z : Sizes) (cells : List ℕ) (st : Step) → Stays z cells (ruled z cells st)
-unfolding ruled settled offerRule
-ruled-leaves z cells (Offer p s c) = λ n. absurd (n refl)
-ruled-leaves z cells (Recall p s d) =
-    recall-cases (λ x. Stays z cells (recording s p x)) (λ k n. refl) (serverOf z cells s p) _ _ p d (λ e n. absurd (n refl))
-ruled-leaves z cells (Rejoin p s b) =
-    rejoin-cases (λ x. Stays z cells (recording s p x)) (λ k n. refl) (serverOf z cells s p) _ _ p b (λ o e m t n. absurd (n refl))
-ruled-leaves z cells (Bid p s b) =
-    bid-cases (λ x. Stays z cells (recording s p x)) (λ k n. refl) (serverOf z cells s p) _ p b (λ o e h n. absurd (n refl))
-ruled-leaves z cells (Write p s d) =
-    write-cases (λ x. Stays z cells (blocking s d p x)) (λ k n. refl) (serverOf z cells s p) _ d (λ e n. absurd (n refl))
-ruled-leaves z cells (Read p s d q) =
-    read-cases (λ x. Stays z cells (recording s p x)) (λ k n. refl) (serverOf z cells s p) _ _ _ p d q
-    (λ e w m n. absurd (n refl)) (λ b e o m n. absurd (n refl))
-ruled-leaves z cells (Finish p s) =
-    finish-cases (λ x. Stays z cells (recording s p x)) (λ k n. refl) (serverOf z cells s p) _ _ p
-    (λ e m c n. absurd (n refl)) (λ e m n. absurd (n refl))
-ruled-leaves z cells (Fail p) = λ n. absurd (n refl)
-ruled-leaves z cells (DriveOff d) = λ n. absurd (n refl)
-ruled-leaves z cells (DriveOn d) = λ n. absurd (n refl)
+unfolding ruled
+ruled-leaves z cells st =
+    view-leaves z cells (viewOf st) _ (ruling (ruleAt z cells st)) (all-do NotRefusing (λ n. tt) (ruleAt z cells st) (kind-at z cells st .sound))
 
 -- a refusal leaves every cell as it was
 pub refusal-leaves : (cells : List ℕ) (st : Step) → (stepRefusal (answered cells st) ≡ 0 → ⊥) → stepped cells st ≡ cells

@@ -1,7 +1,7 @@
 -- Each rule, on a record and a block in range, leaves the record in range.
 use Prim.Native.Nat.{ℕ, _<_, _≤_}
 use mathlib.Core.Path.{_≡_}
-use mathlib.Core.Bool.{Bool, true, false}
+use mathlib.Core.Bool.{Bool, true, false, cond}
 use mathlib.Core.List.{List}
 use native.Mathlib.Omega.{arith}
 use lib.Dec.{eqb, ltb}
@@ -12,11 +12,11 @@ use Rattle.quorum.proofs.MaskLaws.{within-zero, within-marked}
 use Rattle.state.specs.declared.Block.{Block}
 use Rattle.state.specs.declared.Server.{Server}
 use Rattle.state.specs.declared.Sizes.{Sizes}
-use Rattle.state.specs.Server.{failed, ownBlock, pickNumber}
+use Rattle.state.specs.Server.{failed, ownBlock}
 use Rattle.synod.specs.declared.Ruling.{Ruling}
 use Rattle.synod.specs.declared.Ruling.the-variants.{Refused, Accepted}
 use Rattle.synod.specs.Changes.{readBit, offering, meeting, marking, topping, recalling, rejoining, bidding, writing, reading, proposing, committing}
-use Rattle.synod.specs.Rules.{commandOf, offerRule, recallRule, rejoinRule, bidRule, writeRule, readRule, finishRule}
+use Rattle.synod.specs.Rules.{commandOf, offerRule, recallRule, rejoinRule, bidRule, writeRule, readRule, finishRule, offerSays}
 use Rattle.synod.proofs.Rulings.{recall-cases, rejoin-cases, bid-cases, write-cases, read-cases, finish-cases}
 use Rattle.layout.specs.Places.{Fit}
 use Rattle.range.specs.Range.{masksOf, valueFits}
@@ -27,11 +27,11 @@ abbrev pub Keeps : List ℕ → Sizes → Ruling → Type 0
 Keeps limits z (Refused n) = Unit {0}
 Keeps limits z (Accepted v a) = ServerIn limits (masksOf z) v
 
-pick-most : (t : Bool) (a b l : ℕ) → a ≤ l → b ≤ l → pickNumber t a b ≤ l
+pick-most : (t : Bool) (a b l : ℕ) → a ≤ l → b ≤ l → cond t a b ≤ l
 pick-most true a b l h k = h
 pick-most false a b l h k = k
 
-pick-value : (limits : List ℕ) (t : Bool) (a b : ℕ) → valueFits limits a ≡ true → valueFits limits b ≡ true → valueFits limits (pickNumber t a b) ≡ true
+pick-value : (limits : List ℕ) (t : Bool) (a b : ℕ) → valueFits limits a ≡ true → valueFits limits b ≡ true → valueFits limits (cond t a b) ≡ true
 pick-value limits true a b h k = h
 pick-value limits false a b h k = k
 
@@ -135,7 +135,7 @@ module _ (limits : List ℕ) (z : Sizes) where
         t
 
     pub offer-keeps : (c : ℕ) → isCommand limits c ≡ true → Keeps limits z (offerRule v c)
-    unfolding offerRule offering
+    unfolding offerSays offering
     offer-keeps c e =
         record {
           phase = s .phase;

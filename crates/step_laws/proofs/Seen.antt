@@ -8,14 +8,14 @@ use lib.ListN.{set}
 use Rattle.state.specs.declared.Server.{Server}
 use Rattle.state.specs.declared.Sizes.{Sizes}
 use Rattle.state.specs.Server.{failed, ownBlock}
-use Rattle.synod.specs.Slot.{configOf, updated, withRecord, withBlock}
+use Rattle.synod.specs.Rules.{configOf, updated, withRecord, withBlock}
 use Rattle.synod.proofs.Alike.{Same, Alike}
 use Rattle.synod.proofs.Update.{everywhere}
 use Rattle.layout.specs.Places.{Row}
 use Rattle.layout.specs.Cells.{offAt, serverOf, blockOf, putServer, putBlock}
 use Rattle.layout.proofs.RoomLaws.{server-row, server-after-server, other-server-after-server, block-after-server, block-after-block, other-block-after-block, server-after-block, server-after-off, block-after-off}
 use Rattle.room.specs.Step.{failedBelow}
-use Rattle.step_laws.specs.Slots.{seen}
+use Rattle.room.specs.Judge.{seen}
 
 module _ (z : Sizes) (r : List ℕ) (row : Row z r) where
   -- a record is stored: its slot has it, every other slot is as it was

@@ -3,12 +3,13 @@ use Prim.Native.Nat.{ℕ, _<_, _≤_}
 use native.Mathlib.Decide.{decLe}
 use native.Mathlib.Omega.{arith}
 use borrow.Author.Tests.{eqb-true}
-use mathlib.Core.Bool.{Bool, true, false}
+use mathlib.Core.Bool.{Bool, true, false, cond}
 use mathlib.Core.List.{List·Memᴰ}
 use mathlib.Core.Path.{_≡_, refl, sym}
 use lib.Dec.{eqb}
-use Rattle.state.specs.Server.{outputOf, pickNumber}
-use Rattle.synod.specs.Slot.{Slot, Config, Ghost, Tried}
+use Rattle.state.specs.Server.{outputOf}
+use Rattle.synod.specs.Rules.{Slot, Config}
+use Rattle.synod.specs.Slot.{Ghost, Tried}
 use Rattle.synod.proofs.Ghosts.{Offered, Committed}
 use Rattle.synod.proofs.Invariant.{Invariant}
 
@@ -39,8 +40,8 @@ pub output-committed : {c : Config} {g : Ghost} {σ : Slot} → Invariant c g σ
     → (outputOf (σ p .own) ≡ 0 → ⊥) → Settled g (outputOf (σ p .own))
 output-committed {c} {g} {σ} inv p lt = by-phase (eqb (σ p .own .phase) 3) refl
   where
-    by-phase : (b : Bool) → eqb (σ p .own .phase) 3 ≡ b → (pickNumber b (σ p .own .inp) 0 ≡ 0 → ⊥)
-        → Settled g (pickNumber b (σ p .own .inp) 0)
+    by-phase : (b : Bool) → eqb (σ p .own .phase) 3 ≡ b → (cond b (σ p .own .inp) 0 ≡ 0 → ⊥)
+        → Settled g (cond b (σ p .own .inp) 0)
     by-phase true e h =
         record {
           ballot = σ p .own .mbal;

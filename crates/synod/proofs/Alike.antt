@@ -8,11 +8,11 @@ use Rattle.state.specs.declared.Sizes.{Sizes}
 use Rattle.state.specs.declared.Step.{Step}
 use Rattle.state.specs.declared.Step.the-variants.{Offer, Recall, Rejoin, Bid, Write, Read, Finish, Fail, DriveOff, DriveOn}
 use Rattle.state.specs.Server.{ownBlock}
+use Rattle.state.specs.View.{Brings, Stores, Alone, View, AtSlot, AtServer, AtDrive, viewOf}
 use Rattle.synod.specs.declared.Ruling.{Ruling}
 use Rattle.synod.specs.declared.Ruling.the-variants.{Refused, Accepted}
 use Rattle.synod.specs.Arguments.{placesFit}
-use Rattle.synod.specs.Rules.{offerRule, recallRule, rejoinRule, bidRule, writeRule, readRule, finishRule}
-use Rattle.synod.specs.Slot.{Node, Slot, Config, configOf, updated, withRecord, withBlock, ruled, after}
+use Rattle.synod.specs.Rules.{offerRule, recallRule, rejoinRule, bidRule, writeRule, readRule, finishRule, Node, Slot, Config, configOf, updated, withRecord, withBlock, slotAfter, ruled, after, ruleOf}
 use Rattle.synod.proofs.Places.{at-server, at-drive, at-other}
 use Rattle.synod.proofs.Update.{both-everywhere}
 
@@ -51,26 +51,24 @@ module _ {c : Config} {σ τ : Slot} (like : Alike c σ τ) where
             (λ e ne. like p lp .disk e);
       })
 
+  view-alike : (w : View) (v : Server) → Alike c (slotAfter σ w v) (slotAfter τ w v)
+  view-alike (AtSlot p s (Brings n)) v = record-alike p v
+  view-alike (AtSlot p s (Stores d)) v = block-alike p d v
+  view-alike (AtSlot p s Alone) v = record-alike p v
+  view-alike (AtServer p) v = record-alike p v
+  view-alike (AtDrive d on) v = like
+
   pub after-alike : (st : Step) (r : Ruling) → Alike c (after σ st r) (after τ st r)
   unfolding after
   after-alike st (Refused n) = like
-  after-alike (Offer p s w) (Accepted v a) = record-alike p v
-  after-alike (Recall p s d) (Accepted v a) = record-alike p v
-  after-alike (Rejoin p s b) (Accepted v a) = record-alike p v
-  after-alike (Bid p s b) (Accepted v a) = record-alike p v
-  after-alike (Write p s d) (Accepted v a) = block-alike p d v
-  after-alike (Read p s d q) (Accepted v a) = record-alike p v
-  after-alike (Finish p s) (Accepted v a) = record-alike p v
-  after-alike (Fail p) (Accepted v a) = record-alike p v
-  after-alike (DriveOff d) (Accepted v a) = like
-  after-alike (DriveOn d) (Accepted v a) = like
+  after-alike st (Accepted v a) = view-alike (viewOf st) v
 
 module _ (z : Sizes) (off : ℕ) {σ τ : Slot} (like : Alike (configOf z) σ τ) where
   own : (p : ℕ) → p < z .servers → σ p .own ≡ τ p .own
   own p lp = like p lp .own
 
   pub ruled-alike : (st : Step) → placesFit z st ≡ true → ruled (configOf z) off σ st ≡ ruled (configOf z) off τ st
-  unfolding placesFit ruled
+  unfolding placesFit ruleOf
   ruled-alike (Offer p s v) h = ap (λ x. offerRule x v) (own p (at-server z p s h .server))
   ruled-alike (Recall p s d) h =
       let at = at-drive z p s d h in

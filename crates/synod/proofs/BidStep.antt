@@ -6,7 +6,8 @@ use mathlib.Core.Path.{refl}
 use mathlib.Core.Logic.{inl, inr}
 use Rattle.state.specs.Server.{failed}
 use Rattle.synod.specs.Changes.{bidding}
-use Rattle.synod.specs.Slot.{Slot, Config, Ghost, withRecord}
+use Rattle.synod.specs.Rules.{Slot, Config, withRecord}
+use Rattle.synod.specs.Slot.{Ghost}
 use Rattle.synod.proofs.One.{Owns, Sound}
 use Rattle.synod.proofs.Invariant.{Invariant}
 use Rattle.synod.proofs.Frame.{Change}

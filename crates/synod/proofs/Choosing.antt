@@ -3,15 +3,14 @@
 use Prim.Native.Nat.{ℕ, _<_, _≤_}
 use native.Mathlib.Omega.{arith}
 use borrow.Author.Tests.{ne-eqb}
-use mathlib.Core.Bool.{Bool, true, false}
+use mathlib.Core.Bool.{Bool, true, false, cond}
 use mathlib.Core.Path.{_≡_, refl, _∙_, ap, subst}
 use mathlib.Core.Logic.{_⊎_, inl, inr}
 use lib.Dec.{eqb}
 use Rattle.ballot.proofs.Laws.{one-owner}
-use Rattle.state.specs.Server.{pickNumber}
 use Rattle.synod.specs.Changes.{proposing}
-use Rattle.synod.specs.Rules.{commandOf}
-use Rattle.synod.specs.Slot.{Node, Slot, Config, Ghost, withRecord, withProposal, updated}
+use Rattle.synod.specs.Rules.{commandOf, Node, Slot, Config, withRecord, updated}
+use Rattle.synod.specs.Slot.{Ghost, withProposal}
 use Rattle.synod.proofs.Ghosts.{Offered, Proposed, Known}
 use Rattle.synod.proofs.Update.{everywhere}
 use Rattle.synod.proofs.Quorums.{Quorum}
@@ -81,7 +80,7 @@ module _ {c : Config} {g : Ghost} {σ : Slot} {p : ℕ} (k : Choice c g σ p) wh
       by-case : Known g (σ p .own .seenbal) (σ p .own .seeninp) → command ≡ v
       by-case (inl zero) = let e = zero .0 in absurd (omega arith)
       by-case (inr pr) =
-          ap (λ t. pickNumber t (σ p .own .offer) (σ p .own .seeninp))
+          ap (λ t. cond t (σ p .own .offer) (σ p .own .seeninp))
           (ne-eqb (σ p .own .seeninp) 0 (k .inv .fair (σ p .own .seenbal) (σ p .own .seeninp) pr .command))
           ∙ only (σ p .own .seenbal) (σ p .own .seeninp) pr low
 
@@ -96,7 +95,7 @@ module _ {c : Config} {g : Ghost} {σ : Slot} {p : ℕ} (k : Choice c g σ p) wh
       of-seen (inl zero) ne = absurd (ne (zero .1))
       of-seen (inr pr) ne = k .inv .fair (σ p .own .seenbal) (σ p .own .seeninp) pr .offered
 
-      by-test : (t : Bool) → (pickNumber t (σ p .own .offer) (σ p .own .seeninp) ≡ 0 → ⊥)
-          → Offered g (pickNumber t (σ p .own .offer) (σ p .own .seeninp))
+      by-test : (t : Bool) → (cond t (σ p .own .offer) (σ p .own .seeninp) ≡ 0 → ⊥)
+          → Offered g (cond t (σ p .own .offer) (σ p .own .seeninp))
       by-test true ne = of-offer (sound .offer-offered) ne
       by-test false ne = of-seen (sound .seen-known) ne

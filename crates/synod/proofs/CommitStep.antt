@@ -7,7 +7,8 @@ use mathlib.Core.List.{List·Memᴰ·head, List·Memᴰ·cases-cons}
 use mathlib.Core.Path.{_≡_, refl, sym, ap, subst}
 use mathlib.Core.Logic.{_⊎_, inl, inr}
 use Rattle.synod.specs.Changes.{committing}
-use Rattle.synod.specs.Slot.{Slot, Config, Ghost, Tried, withRecord, withCommit, updated}
+use Rattle.synod.specs.Rules.{Slot, Config, withRecord, updated}
+use Rattle.synod.specs.Slot.{Ghost, Tried, withCommit}
 use Rattle.ballot.proofs.Laws.{owned-positive}
 use Rattle.synod.proofs.Ghosts.{Proposed, Committed, Known, tried}
 use Rattle.synod.proofs.Grows.{Grows, with-commit, sound-more, fair-more, blocker-more}

@@ -4,12 +4,13 @@ use mathlib.Core.List.{List·Memᴰ·tail}
 use mathlib.Core.Path.{_≡_}
 use mathlib.Core.Logic.{_⊎_, inl, inr}
 use Rattle.state.specs.declared.Step.{Step}
-use Rattle.state.specs.declared.Step.the-variants.{Offer, Recall, Rejoin, Bid, Write, Read, Finish, Fail, DriveOff, DriveOn}
+use Rattle.state.specs.View.{Deed, Brings, Stores, Alone, View, AtSlot, AtServer, AtDrive, viewOf}
 use Rattle.state.specs.declared.Answer.{Answer}
 use Rattle.state.specs.declared.Answer.the-variants as answer
 use Rattle.synod.specs.declared.Ruling.{Ruling}
 use Rattle.synod.specs.declared.Ruling.the-variants.{Refused, Accepted}
-use Rattle.synod.specs.Slot.{Node, Slot, Config, Ghost, withOffer, withProposal, withCommit, heard, noted}
+use Rattle.synod.specs.Rules.{Node, Slot, Config}
+use Rattle.synod.specs.Slot.{Ghost, withOffer, withProposal, withCommit, heard, withDeed, ghostAfter, noted}
 use Rattle.synod.proofs.Ghosts.{Offered, Proposed, Committed, Known}
 use Rattle.synod.proofs.One.{Sound}
 use Rattle.synod.proofs.Proposals.{Fair}
@@ -80,19 +81,19 @@ heard-grows g mbal (answer.Chosen c) = with-proposal g mbal c
 heard-grows g mbal (answer.Committed c) = with-commit g mbal c
 heard-grows g mbal (answer.Refused n) = same g
 
+deed-grows : {g h : Ghost} (k : Deed) → Grows g h → Grows g (withDeed k h)
+deed-grows (Brings c) x =
+    record { offered = λ w m. List·Memᴰ·tail (x .offered w m); proposed = x .proposed; committed = x .committed }
+deed-grows (Stores d) x = x
+deed-grows Alone x = x
+
+view-grows : (g : Ghost) (σ : Slot) (w : View) (a : Answer) → Grows g (ghostAfter g σ w a)
+view-grows g σ (AtSlot p s k) a = deed-grows k (heard-grows g (σ p .own .mbal) a)
+view-grows g σ (AtServer p) a = heard-grows g (σ p .own .mbal) a
+view-grows g σ (AtDrive d on) a = same g
+
 -- what a step adds takes nothing away
 pub noted-grows : (g : Ghost) (σ : Slot) (st : Step) (r : Ruling) → Grows g (noted g σ st r)
 unfolding noted
 noted-grows g σ st (Refused n) = same g
-noted-grows g σ (Offer p s c) (Accepted v a) =
-    let x = heard-grows g (σ p .own .mbal) a in
-    record { offered = λ w m. List·Memᴰ·tail (x .offered w m); proposed = x .proposed; committed = x .committed }
-noted-grows g σ (Recall p s d) (Accepted v a) = heard-grows g (σ p .own .mbal) a
-noted-grows g σ (Rejoin p s b) (Accepted v a) = heard-grows g (σ p .own .mbal) a
-noted-grows g σ (Bid p s b) (Accepted v a) = heard-grows g (σ p .own .mbal) a
-noted-grows g σ (Write p s d) (Accepted v a) = heard-grows g (σ p .own .mbal) a
-noted-grows g σ (Read p s d q) (Accepted v a) = heard-grows g (σ p .own .mbal) a
-noted-grows g σ (Finish p s) (Accepted v a) = heard-grows g (σ p .own .mbal) a
-noted-grows g σ (Fail p) (Accepted v a) = heard-grows g (σ p .own .mbal) a
-noted-grows g σ (DriveOff d) (Accepted v a) = same g
-noted-grows g σ (DriveOn d) (Accepted v a) = same g
+noted-grows g σ st (Accepted v a) = view-grows g σ (viewOf st) a

@@ -13,8 +13,8 @@ use Rattle.state.specs.Server.{failed}
 use Rattle.synod.specs.declared.Ruling.{Ruling}
 use Rattle.synod.specs.declared.Ruling.the-variants.{Refused, Accepted}
 use Rattle.synod.specs.Arguments.{placesFit}
-use Rattle.synod.specs.Rules.{offerRule, recallRule, rejoinRule, bidRule, writeRule, readRule, finishRule}
-use Rattle.synod.specs.Slot.{Slot, Config, Fits, configOf, Ghost, ruled, after, noted, heard}
+use Rattle.synod.specs.Rules.{offerRule, recallRule, rejoinRule, bidRule, writeRule, readRule, finishRule, Slot, Config, configOf, ruled, after, offerSays, ruleOf}
+use Rattle.synod.specs.Slot.{Fits, Ghost, noted, heard}
 use Rattle.synod.proofs.Places.{at-server, at-drive, at-other}
 use Rattle.synod.proofs.Rulings.{recall-cases, rejoin-cases, bid-cases, write-cases, read-cases, finish-cases}
 use Rattle.synod.proofs.Invariant.{Invariant}
@@ -39,7 +39,7 @@ module _ {c : Config} {g : Ghost} {σ : Slot} (inv : Invariant c g σ) where
 
   module _ (p : ℕ) (lp : p < c .servers) (s : ℕ) where
     offer-kept : (v : ℕ) → Keeps c g σ (Offer p s v) (offerRule (σ p .own) v)
-    unfolding noted after heard offerRule
+    unfolding noted after heard offerSays
     offer-kept v = let now = offered-more v inv in frame now p lp _ (offer-change now p lp v (List·Memᴰ·head refl))
 
     recall-kept : (off d : ℕ) → Keeps c g σ (Recall p s d) (recallRule off (σ p .own) (σ p .disk d) p d)
@@ -90,7 +90,7 @@ module _ {c : Config} {g : Ghost} {σ : Slot} (inv : Invariant c g σ) where
 module _ (z : Sizes) (fits : Fits (configOf z)) (off : ℕ) {g : Ghost} {σ : Slot} (inv : Invariant (configOf z) g σ) where
   pub kept : (st : Step) → placesFit z st ≡ true
       → Invariant (configOf z) (noted g σ st (ruled (configOf z) off σ st)) (after σ st (ruled (configOf z) off σ st))
-  unfolding placesFit ruled
+  unfolding placesFit ruleOf
   kept (Offer p s v) h = offer-kept inv p (at-server z p s h .server) s v
   kept (Recall p s d) h = recall-kept inv p (at-drive z p s d h .server) s off d
   kept (Rejoin p s b) h = rejoin-kept inv p (at-server z p s h .server) s b
@@ -104,5 +104,5 @@ module _ (z : Sizes) (fits : Fits (configOf z)) (off : ℕ) {g : Ghost} {σ : Sl
       read-kept inv p (at .server) s fits off d q (at .other)
   kept (Finish p s) h = finish-kept inv p (at-server z p s h .server) s
   kept (Fail p) h = fail-kept inv p (ltb-true p (z .servers) h) 0
-  kept (DriveOff d) h = refused inv (DriveOff d) 0
-  kept (DriveOn d) h = refused inv (DriveOn d) 0
+  kept (DriveOff d) h = unfold noted after in inv
+  kept (DriveOn d) h = unfold noted after in inv

@@ -3,12 +3,11 @@
 use Prim.Native.Nat.{ℕ, _≤_}
 use native.Mathlib.Omega.{arith}
 use borrow.Author.Tests.{ltb-true, ltb-false}
-use mathlib.Core.Bool.{Bool, true, false}
+use mathlib.Core.Bool.{Bool, true, false, cond}
 use mathlib.Core.Path.{_≡_, refl}
 use lib.Dec.{ltb}
 use Rattle.state.specs.declared.Block.{Block}
 use Rattle.state.specs.declared.Server.{Server}
-use Rattle.state.specs.Server.{pickNumber}
 use Rattle.synod.specs.Slot.{Ghost}
 use Rattle.synod.specs.Changes.{meeting}
 use Rattle.synod.proofs.Ghosts.{Known}
@@ -19,14 +18,14 @@ pub record Met (g : Ghost) (v : Server) (b : Block) (w : Server) : Type 0 where
   pub known : Known g (v .seenbal) (v .seeninp) → Known g (b .bal) (b .inp) → Known g (w .seenbal) (w .seeninp)
 
 -- the larger of two numbers is no less than either
-larger : (s b : ℕ) → (s ≤ pickNumber (ltb s b) b s) × (b ≤ pickNumber (ltb s b) b s)
+larger : (s b : ℕ) → (s ≤ cond (ltb s b) b s) × (b ≤ cond (ltb s b) b s)
 larger s b = by-test (ltb s b) refl
   where
-    by-test : (t : Bool) → ltb s b ≡ t → (s ≤ pickNumber t b s) × (b ≤ pickNumber t b s)
+    by-test : (t : Bool) → ltb s b ≡ t → (s ≤ cond t b s) × (b ≤ cond t b s)
     by-test true e = let h = ltb-true s b e in (omega arith, omega arith)
     by-test false e = let h = ltb-false s b e in (omega arith, omega arith)
 
-known-either : (g : Ghost) (t : Bool) (s i b j : ℕ) → Known g s i → Known g b j → Known g (pickNumber t b s) (pickNumber t j i)
+known-either : (g : Ghost) (t : Bool) (s i b j : ℕ) → Known g s i → Known g b j → Known g (cond t b s) (cond t j i)
 known-either g true s i b j x y = y
 known-either g false s i b j x y = x
 

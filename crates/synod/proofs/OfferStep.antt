@@ -4,7 +4,8 @@ use native.Mathlib.Nat.{le-refl}
 use mathlib.Core.Path.{refl}
 use mathlib.Core.Logic.{inl, inr}
 use Rattle.synod.specs.Changes.{offering}
-use Rattle.synod.specs.Slot.{Slot, Config, Ghost, withRecord, withOffer}
+use Rattle.synod.specs.Rules.{Slot, Config, withRecord}
+use Rattle.synod.specs.Slot.{Ghost, withOffer}
 use Rattle.synod.proofs.Ghosts.{Offered}
 use Rattle.synod.proofs.One.{Sound}
 use Rattle.synod.proofs.Grows.{Grows, with-offer, sound-more, fair-more, blocker-more}

@@ -1,5 +1,6 @@
 -- What the steps do to every server's output and offer (01, "The one-value machine"): both are told by the step and its
 -- ruling alone. A committed answer comes from a server that had no output.
+use mathlib.Core.Bool.{cond}
 use Prim.Native.Nat.{ℕ, _≤_}
 use native.Mathlib.Omega.{arith}
 use borrow.Author.Tests.{ne-eqb}
@@ -10,13 +11,13 @@ use Rattle.state.specs.declared.Step.the-variants.{Offer, Recall, Rejoin, Bid, 
 use Rattle.state.specs.declared.Answer.{Answer}
 use Rattle.state.specs.declared.Answer.the-variants as answer
 use Rattle.state.specs.Answers.{codeOf, numberOf}
-use Rattle.state.specs.Server.{outputOf, offerOf, pickNumber}
+use Rattle.state.specs.Server.{outputOf, offerOf}
+use Rattle.state.specs.View.{Brings, Stores, Alone, View, AtSlot, AtServer, AtDrive, viewOf}
 use Rattle.synod.specs.declared.Ruling.{Ruling}
 use Rattle.synod.specs.declared.Ruling.the-variants.{Refused, Accepted}
 use Rattle.synod.specs.Changes.{offering, marking, meeting, topping, recalling, rejoining, bidding, writing, reading, proposing, committing}
-use Rattle.synod.specs.Rules.{offerRule}
-use Rattle.synod.specs.Slot.{Node, Slot, Config, updated, ruled, after}
-use Rattle.synod.proofs.Rulings.{recall-cases, rejoin-cases, bid-cases, write-cases, read-cases, finish-cases}
+use Rattle.synod.specs.Rules.{Node, Slot, Config, updated, ruled, after, offerSays, ruleOf, recallSays, rejoinSays, bidSays, writeSays, outbidSays, readSays, finishSays}
+use Rattle.synod.proofs.Rulings.{AllDo, all-do, recall-cases, rejoin-cases, bid-cases, write-cases, read-cases, finish-cases}
 use Rattle.synod.proofs.Update.{everywhere, updated-at, updated-map}
 
 -- a committed answer is its server's output
@@ -28,32 +29,26 @@ told out p (answer.Committed c) = updated out p c
 told out p (answer.Refused n) = out
 
 -- the outputs after a step, from those before it
+abbrev pub outputsAt : (ℕ → ℕ) → View → Answer → ℕ → ℕ
+outputsAt out (AtSlot p s k) a = told out p a
+outputsAt out (AtServer p) a = updated out p 0
+outputsAt out (AtDrive d on) a = out
+
 unfoldable pub outputsAfter : (ℕ → ℕ) → Step → Ruling → ℕ → ℕ
 outputsAfter out st (Refused n) = out
-outputsAfter out (Offer p s c) (Accepted v a) = told out p a
-outputsAfter out (Recall p s d) (Accepted v a) = told out p a
-outputsAfter out (Rejoin p s b) (Accepted v a) = told out p a
-outputsAfter out (Bid p s b) (Accepted v a) = told out p a
-outputsAfter out (Write p s d) (Accepted v a) = told out p a
-outputsAfter out (Read p s d q) (Accepted v a) = told out p a
-outputsAfter out (Finish p s) (Accepted v a) = told out p a
-outputsAfter out (Fail p) (Accepted v a) = updated out p 0
-outputsAfter out (DriveOff d) (Accepted v a) = out
-outputsAfter out (DriveOn d) (Accepted v a) = out
+outputsAfter out st (Accepted v a) = outputsAt out (viewOf st) a
 
 -- the offers after a step, from those before it
+abbrev pub offersAt : (ℕ → ℕ) → View → ℕ → ℕ
+offersAt offer (AtSlot p s (Brings c)) = updated offer p c
+offersAt offer (AtSlot p s (Stores d)) = offer
+offersAt offer (AtSlot p s Alone) = offer
+offersAt offer (AtServer p) = updated offer p 0
+offersAt offer (AtDrive d on) = offer
+
 unfoldable pub offersAfter : (ℕ → ℕ) → Step → Ruling → ℕ → ℕ
 offersAfter offer st (Refused n) = offer
-offersAfter offer (Offer p s c) (Accepted v a) = updated offer p c
-offersAfter offer (Recall p s d) (Accepted v a) = offer
-offersAfter offer (Rejoin p s b) (Accepted v a) = offer
-offersAfter offer (Bid p s b) (Accepted v a) = offer
-offersAfter offer (Write p s d) (Accepted v a) = offer
-offersAfter offer (Read p s d q) (Accepted v a) = offer
-offersAfter offer (Finish p s) (Accepted v a) = offer
-offersAfter offer (Fail p) (Accepted v a) = updated offer p 0
-offersAfter offer (DriveOff d) (Accepted v a) = offer
-offersAfter offer (DriveOn d) (Accepted v a) = offer
+offersAfter offer st (Accepted v a) = offersAt offer (viewOf st)
 
 abbrev pub outputs : Slot → ℕ → ℕ
 outputs σ q = outputOf (σ q .own)
@@ -63,7 +58,7 @@ offers σ q = offerOf (σ q .own)
 
 -- only phase 3 has an output
 pub quiet : (v : Server) → v .phase ≤ 2 → outputOf v ≡ 0
-quiet v h = ap (λ t. pickNumber t (v .inp) 0) (ne-eqb (v .phase) 3 (λ e. omega arith))
+quiet v h = ap (λ t. cond t (v .inp) 0) (ne-eqb (v .phase) 3 (λ e. omega arith))
 
 -- one node changed, and what it shows did not
 unchanged : (f : Server → ℕ) (σ : Slot) (p : ℕ) (m : Node) → f (m .own) ≡ f (σ p .own) → (q : ℕ)
@@ -84,7 +79,7 @@ TellsOffers σ st q r = offers (after σ st r) q ≡ offersAfter (offers σ) st 
 
 module _ (c : Config) (off : ℕ) (σ : Slot) (q : ℕ) where
   pub outputs-told : (st : Step) → TellsOutputs σ st q (ruled c off σ st)
-  unfolding ruled after outputsAfter told offerRule offering marking meeting topping recalling rejoining bidding writing reading proposing committing
+  unfolding ruleOf after outputsAfter told offerSays offering marking meeting topping recalling rejoining bidding writing reading proposing committing
   outputs-told (Offer p s v) = unchanged outputOf σ p _ refl q
   outputs-told (Recall p s d) =
       recall-cases (TellsOutputs σ (Recall p s d) q) (λ n. refl) (σ p .own) off (σ p .disk d) p d
@@ -109,31 +104,23 @@ module _ (c : Config) (off : ℕ) (σ : Slot) (q : ℕ) where
   outputs-told (DriveOff d) = refl
   outputs-told (DriveOn d) = refl
 
+  -- where every end of the step's rule leaves the offers as its view tells
+  offer-ends : (st : Step) → AllDo (λ v a. TellsOffers σ st q (Accepted v a)) (ruleOf c off σ st)
+  unfolding ruleOf after offersAfter offerSays recallSays rejoinSays bidSays writeSays outbidSays readSays finishSays offering marking meeting topping recalling rejoining bidding writing reading proposing committing
+  offer-ends (Offer p s v) = changed offerOf σ p _ q
+  offer-ends (Recall p s d) = unchanged offerOf σ p _ refl q
+  offer-ends (Rejoin p s b) = unchanged offerOf σ p _ refl q
+  offer-ends (Bid p s b) = unchanged offerOf σ p _ refl q
+  offer-ends (Write p s d) = unchanged offerOf σ p _ refl q
+  offer-ends (Read p s d r) = (unchanged offerOf σ p _ refl q, unchanged offerOf σ p _ refl q)
+  offer-ends (Finish p s) = (unchanged offerOf σ p _ refl q, unchanged offerOf σ p _ refl q)
+  offer-ends (Fail p) = changed offerOf σ p _ q
+  offer-ends (DriveOff d) = refl
+  offer-ends (DriveOn d) = refl
+
   pub offers-told : (st : Step) → TellsOffers σ st q (ruled c off σ st)
-  unfolding ruled after offersAfter offerRule offering marking meeting topping recalling rejoining bidding writing reading proposing committing
-  offers-told (Offer p s v) = changed offerOf σ p _ q
-  offers-told (Recall p s d) =
-      recall-cases (TellsOffers σ (Recall p s d) q) (λ n. refl) (σ p .own) off (σ p .disk d) p d
-      (λ phase. unchanged offerOf σ p _ refl q)
-  offers-told (Rejoin p s b) =
-      rejoin-cases (TellsOffers σ (Rejoin p s b) q) (λ n. refl) (σ p .own) (c .servers) (c .drives) p b
-      (λ mine phase most up. unchanged offerOf σ p _ refl q)
-  offers-told (Bid p s b) =
-      bid-cases (TellsOffers σ (Bid p s b) q) (λ n. refl) (σ p .own) (c .servers) p b
-      (λ mine two up. unchanged offerOf σ p _ refl q)
-  offers-told (Write p s d) =
-      write-cases (TellsOffers σ (Write p s d) q) (λ n. refl) (σ p .own) off d (λ two. unchanged offerOf σ p _ refl q)
-  offers-told (Read p s d r) =
-      read-cases (TellsOffers σ (Read p s d r) q) (λ n. refl) (σ p .own) (c .servers) off (σ r .disk d) p d r
-      (λ two here low. unchanged offerOf σ p _ refl q)
-      (λ b two mine up. unchanged offerOf σ p _ refl q)
-  offers-told (Finish p s) =
-      finish-cases (TellsOffers σ (Finish p s) q) (λ n. refl) (σ p .own) (c .servers) (c .drives) p
-      (λ one most some. unchanged offerOf σ p _ refl q)
-      (λ two most. unchanged offerOf σ p _ refl q)
-  offers-told (Fail p) = changed offerOf σ p _ q
-  offers-told (DriveOff d) = refl
-  offers-told (DriveOn d) = refl
+  unfolding after offersAfter
+  offers-told st = all-do (TellsOffers σ st q) (λ n. refl) (ruleOf c off σ st) (offer-ends st)
 
 -- 0 for done to 3 for committed, as 01 counts answers; 4 for a refusal
 abbrev wordOf : Ruling → ℕ
@@ -172,7 +159,7 @@ module _ (c : Config) (off : ℕ) (σ : Slot) (x : ℕ) where
       }
 
   tells-commit : (st : Step) → TellsCommit σ st x (ruled c off σ st)
-  unfolding ruled offerRule
+  unfolding ruleOf offerSays
   tells-commit (Offer p s v) = λ e. absurd (omega arith)
   tells-commit (Recall p s d) =
       recall-cases (TellsCommit σ (Recall p s d) x) (λ n e. absurd (omega arith)) (σ p .own) off (σ p .disk d) p d

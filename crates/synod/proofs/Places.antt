@@ -8,6 +8,8 @@ use Rattle.lemmas.proofs.Tests.{and-left, and-right}
 use Rattle.state.specs.declared.Sizes.{Sizes}
 use Rattle.state.specs.declared.Step.{Step}
 use Rattle.state.specs.declared.Step.the-variants.{Offer, Recall, Rejoin, Bid, Write, Read, Finish, Fail, DriveOff, DriveOn}
+use Rattle.state.specs.View as view
+use Rattle.state.specs.View.{View, viewOf}
 use Rattle.synod.specs.Arguments.{serverFits, driveFits, placesFit}
 
 pub record AtServer (z : Sizes) (s p : ℕ) : Type 0 where
@@ -81,3 +83,29 @@ placed z (Finish p s) e = at-server z p s e
 placed z (Fail p) e = ltb-true p (z .servers) e
 placed z (DriveOff d) e = ltb-true d (z .drives) e
 placed z (DriveOn d) e = ltb-true d (z .drives) e
+
+-- the same of the view alone
+abbrev pub InView : Sizes → View → Type 0
+InView z (view.AtSlot p s (view.Brings c)) = AtServer z s p
+InView z (view.AtSlot p s (view.Stores d)) = AtDrive z s p d
+InView z (view.AtSlot p s view.Alone) = AtServer z s p
+InView z (view.AtServer p) = p < z .servers
+InView z (view.AtDrive d on) = d < z .drives
+
+without-drive : {z : Sizes} {s p d : ℕ} → AtDrive z s p d → AtServer z s p
+without-drive a = record { slot = a .slot; server = a .server }
+
+pub in-view : (z : Sizes) (st : Step) → placesFit z st ≡ true → InView z (viewOf st)
+unfolding placesFit
+in-view z (Offer p s v) e = at-server z p s e
+in-view z (Recall p s d) e = without-drive (at-drive z p s d e)
+in-view z (Rejoin p s b) e = at-server z p s e
+in-view z (Bid p s b) e = at-server z p s e
+in-view z (Write p s d) e = at-drive z p s d e
+in-view z (Read p s d q) e =
+    let a = at-other z p s d q e in
+    record { slot = a .slot; server = a .server }
+in-view z (Finish p s) e = at-server z p s e
+in-view z (Fail p) e = ltb-true p (z .servers) e
+in-view z (DriveOff d) e = ltb-true d (z .drives) e
+in-view z (DriveOn d) e = ltb-true d (z .drives) e

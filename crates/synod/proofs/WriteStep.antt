@@ -7,7 +7,8 @@ use mathlib.Core.Path.{_≡_, refl}
 use mathlib.Core.Logic.{_⊎_, inl, inr}
 use Rattle.state.specs.Server.{ownBlock}
 use Rattle.synod.specs.Changes.{writing}
-use Rattle.synod.specs.Slot.{Slot, Config, Ghost, withBlock, updated}
+use Rattle.synod.specs.Rules.{Slot, Config, withBlock, updated}
+use Rattle.synod.specs.Slot.{Ghost}
 use Rattle.synod.proofs.Ghosts.{Known}
 use Rattle.synod.proofs.Marks.{wrote, marked-or, marked-still}
 use Rattle.synod.proofs.Update.{everywhere}

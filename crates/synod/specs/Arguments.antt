@@ -8,6 +8,7 @@ use Rattle.command.specs.Command.{isCommand}
 use Rattle.state.specs.declared.Sizes.{Sizes}
 use Rattle.state.specs.declared.Step.{Step}
 use Rattle.state.specs.declared.Step.the-variants.{Offer, Recall, Rejoin, Bid, Write, Read, Finish, Fail, DriveOff, DriveOn}
+use Rattle.state.specs.View.{Brings, Stores, Alone, View, AtSlot, AtServer, AtDrive, viewOf}
 
 abbrev pub serverFits : Sizes → ℕ → ℕ → Bool
 serverFits z p s = ltb p (z .servers) && ltb s (z .slots)
@@ -28,15 +29,13 @@ placesFit z (Fail p) = ltb p (z .servers)
 placesFit z (DriveOff d) = driveFits z d
 placesFit z (DriveOn d) = driveFits z d
 
--- the command that the step offers, if it offers one, is a command
+-- the command that the step brings, if it brings one, is a command
+abbrev pub deedFits : List ℕ → View → Bool
+deedFits limits (AtSlot p s (Brings c)) = isCommand limits c
+deedFits limits (AtSlot p s (Stores d)) = true
+deedFits limits (AtSlot p s Alone) = true
+deedFits limits (AtServer p) = true
+deedFits limits (AtDrive d on) = true
+
 unfoldable pub commandFits : List ℕ → Step → Bool
-commandFits limits (Offer p s v) = isCommand limits v
-commandFits limits (Recall p s d) = true
-commandFits limits (Rejoin p s b) = true
-commandFits limits (Bid p s b) = true
-commandFits limits (Write p s d) = true
-commandFits limits (Read p s d q) = true
-commandFits limits (Finish p s) = true
-commandFits limits (Fail p) = true
-commandFits limits (DriveOff d) = true
-commandFits limits (DriveOn d) = true
+commandFits limits st = deedFits limits (viewOf st)

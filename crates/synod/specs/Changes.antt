@@ -1,10 +1,11 @@
 -- What an accepted step makes of a server's record (01, "The ten steps").
+use mathlib.Core.Bool.{cond}
 use Prim.Native.Nat.{ℕ, _+_, _*_, max}
 use lib.Dec.{ltb}
 use Rattle.quorum.specs.Marks.{marked}
 use Rattle.state.specs.declared.Block.{Block}
 use Rattle.state.specs.declared.Server.{Server}
-use Rattle.state.specs.Server.{withOwn, cleared, ownBlock, pickNumber}
+use Rattle.state.specs.Server.{withOwn, cleared, ownBlock}
 
 -- the bit of server q's block on drive d in the read marks
 abbrev pub readBit : ℕ → ℕ → ℕ
@@ -36,8 +37,8 @@ meeting v b =
       inp = v .inp;
       offer = v .offer;
       top = v .top;
-      seenbal = pickNumber (ltb (v .seenbal) (b .bal)) (b .bal) (v .seenbal);
-      seeninp = pickNumber (ltb (v .seenbal) (b .bal)) (b .inp) (v .seeninp);
+      seenbal = cond (ltb (v .seenbal) (b .bal)) (b .bal) (v .seenbal);
+      seeninp = cond (ltb (v .seenbal) (b .bal)) (b .inp) (v .seeninp);
       written = v .written;
       read = v .read;
     }

@@ -2,10 +2,6 @@
 use borrow.Author.Needs.{needs}
 use Rattle.layout.proofs.block.Statement.{statement}
 use Rattle.layout.proofs.block.Tie as tie
-use Rattle.layout.proofs.block.Reads as reads
-use Rattle.layout.proofs.block.Lts as lts
-use Rattle.layout.proofs.block_at.Reads as block-at-reads
-use Rattle.layout.proofs.block_in.Reads as block-in-reads
 use native.Mathlib.Omega.{arith}
 use mathlib.Core.Path.{_∙_, ap}
 use Rattle.layout.specs.Cells.{blockOf, blockIn}

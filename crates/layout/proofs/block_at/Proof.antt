@@ -2,9 +2,6 @@
 use borrow.Author.Needs.{needs}
 use Rattle.layout.proofs.block_at.Statement.{statement}
 use Rattle.layout.proofs.block_at.Tie as tie
-use Rattle.layout.proofs.block_at.Reads as reads
-use Rattle.layout.proofs.block_at.Lts as lts
-use Rattle.layout.proofs.slot_length.Reads as slot-length-reads
 use native.Mathlib.Omega.{arith}
 use mathlib.Core.Path.{ap}
 use Prim.Native.Nat.{ℕ, _+_, _*_}

@@ -2,8 +2,6 @@
 use borrow.Author.Needs.{needs}
 use Rattle.layout.proofs.clear.Statement.{statement}
 use Rattle.layout.proofs.clear.Tie as tie
-use Rattle.layout.proofs.clear.Reads as reads
-use Rattle.layout.proofs.clear.Lts as lts
 use native.Mathlib.Omega.{arith}
 use Prim.Native.Nat.{ℕ, _-_, _≤_}
 use mathlib.Core.Path.{_≡_, refl, _∙_, ap}

@@ -2,10 +2,6 @@
 use borrow.Author.Needs.{needs}
 use Rattle.layout.proofs.server.Statement.{statement}
 use Rattle.layout.proofs.server.Tie as tie
-use Rattle.layout.proofs.server.Reads as reads
-use Rattle.layout.proofs.server.Lts as lts
-use Rattle.layout.proofs.server_at.Reads as server-at-reads
-use Rattle.layout.proofs.server_in.Reads as server-in-reads
 use native.Mathlib.Omega.{arith}
 use mathlib.Core.Path.{_∙_, ap}
 use Rattle.layout.specs.Cells.{serverOf, serverIn}

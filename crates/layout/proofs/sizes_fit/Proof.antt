@@ -1,8 +1,6 @@
 -- `layout::sizes_fit` meets its contract.
 use Rattle.layout.proofs.sizes_fit.Statement.{statement}
 use Rattle.layout.proofs.sizes_fit.Tie as tie
-use Rattle.layout.proofs.sizes_fit.Reads as reads
-use Rattle.layout.proofs.sizes_fit.Lts as lts
 use mathlib.Core.Path.{refl}
 use Rattle.layout.specs.Places.{sizesFit}
 

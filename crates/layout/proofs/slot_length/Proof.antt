@@ -2,8 +2,6 @@
 use borrow.Author.Needs.{needs}
 use Rattle.layout.proofs.slot_length.Statement.{statement}
 use Rattle.layout.proofs.slot_length.Tie as tie
-use Rattle.layout.proofs.slot_length.Reads as reads
-use Rattle.layout.proofs.slot_length.Lts as lts
 use native.Mathlib.Omega.{arith}
 use mathlib.Core.Path.{refl}
 use Rattle.layout.specs.Places.{slotLength}

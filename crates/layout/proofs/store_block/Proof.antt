@@ -8,9 +8,6 @@ use Rattle.layout.specs.Cells.{put, blockCells, putBlock}
 use Rattle.layout.proofs.PlaceLaws.{block-within, room-bound}
 use Rattle.layout.proofs.store_block.Statement.{statement}
 use Rattle.layout.proofs.store_block.Tie as tie
-use Rattle.layout.proofs.store_block.Reads as reads
-use Rattle.layout.proofs.store_block.Lts as lts
-use Rattle.layout.proofs.block_at.Reads as block-at-reads
 
 block-at-requires : tie.Need-block-at-requires
 block-at-requires c κs = search needs

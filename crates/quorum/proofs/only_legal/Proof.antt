@@ -1,8 +1,6 @@
 -- `quorum::only_legal` meets its contract: one `or` judges every bit.
 use Rattle.quorum.proofs.only_legal.Statement.{statement}
 use Rattle.quorum.proofs.only_legal.Tie as tie
-use Rattle.quorum.proofs.only_legal.Reads as reads
-use Rattle.quorum.proofs.only_legal.Lts as lts
 use Rattle.quorum.proofs.MaskLaws.{mask-judges}
 
 returns : tie.Need-returns

@@ -2,10 +2,6 @@
 use borrow.Author.Needs.{needs}
 use Rattle.range.proofs.blocks_fit.Statement.{statement}
 use Rattle.range.proofs.blocks_fit.Tie as tie
-use Rattle.range.proofs.blocks_fit.Reads as reads
-use Rattle.range.proofs.blocks_fit.Lts as lts
-use Rattle.layout.proofs.block_in.Reads as block-in-reads
-use Rattle.range.proofs.block_fits.Reads as block-fits-reads
 use native.Mathlib.Omega.{arith}
 use Prim.Native.Nat.{ℕ, _+_, _*_, _≤_, _-_}
 use mathlib.Core.Path.{_≡_, _∙_, sym, ap}

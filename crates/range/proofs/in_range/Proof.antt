@@ -2,14 +2,6 @@
 use borrow.Author.Needs.{needs}
 use Rattle.range.proofs.in_range.Statement.{statement}
 use Rattle.range.proofs.in_range.Tie as tie
-use Rattle.range.proofs.in_range.Reads as reads
-use Rattle.range.proofs.in_range.Lts as lts
-use Rattle.layout.proofs.room_length.Reads as room-length-reads
-use Rattle.layout.proofs.sizes.Reads as sizes-reads
-use Rattle.layout.proofs.sizes_fit.Reads as sizes-fit-reads
-use Rattle.quorum.proofs.only_legal.Reads as only-legal-reads
-use Rattle.range.proofs.masks_of.Reads as masks-of-reads
-use Rattle.range.proofs.slots_fit.Reads as slots-fit-reads
 use mathlib.Core.Path.{_∙_, sym, ap}
 use borrow.Author.Tests.{not-true, not-false, eq-eqb, ne-eqb}
 use Prim.Native.Nat.{ℕ}

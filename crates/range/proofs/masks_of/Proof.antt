@@ -2,8 +2,6 @@
 use borrow.Author.Needs.{needs}
 use Rattle.range.proofs.masks_of.Statement.{statement}
 use Rattle.range.proofs.masks_of.Tie as tie
-use Rattle.range.proofs.masks_of.Reads as reads
-use Rattle.range.proofs.masks_of.Lts as lts
 use native.Mathlib.Omega.{arith}
 use Rattle.quorum.proofs.Shift.{one-shifted}
 use lib.Pow.{pow-pos}

@@ -2,10 +2,6 @@
 use borrow.Author.Needs.{needs}
 use Rattle.range.proofs.server_fits.Statement.{statement}
 use Rattle.range.proofs.server_fits.Tie as tie
-use Rattle.range.proofs.server_fits.Reads as reads
-use Rattle.range.proofs.server_fits.Lts as lts
-use Rattle.range.proofs.numbers_fit.Reads as numbers-fit-reads
-use Rattle.range.proofs.value_fits.Reads as value-fits-reads
 use mathlib.Core.Path.{_∙_, sym}
 use mathlib.Core.Bool.{and-false}
 use borrow.Author.Tests.{not-true, not-false}

@@ -2,10 +2,6 @@
 use borrow.Author.Needs.{needs}
 use Rattle.range.proofs.servers_fit.Statement.{statement}
 use Rattle.range.proofs.servers_fit.Tie as tie
-use Rattle.range.proofs.servers_fit.Reads as reads
-use Rattle.range.proofs.servers_fit.Lts as lts
-use Rattle.layout.proofs.server_in.Reads as server-in-reads
-use Rattle.range.proofs.server_fits.Reads as server-fits-reads
 use native.Mathlib.Omega.{arith}
 use Prim.Native.Nat.{ℕ, _+_, _*_, _≤_, _-_}
 use mathlib.Core.Path.{_≡_, _∙_, sym, ap}

@@ -2,11 +2,6 @@
 use borrow.Author.Needs.{needs}
 use Rattle.range.proofs.slots_fit.Statement.{statement}
 use Rattle.range.proofs.slots_fit.Tie as tie
-use Rattle.range.proofs.slots_fit.Reads as reads
-use Rattle.range.proofs.slots_fit.Lts as lts
-use Rattle.layout.proofs.slot_length.Reads as slot-length-reads
-use Rattle.range.proofs.blocks_fit.Reads as blocks-fit-reads
-use Rattle.range.proofs.servers_fit.Reads as servers-fit-reads
 use native.Mathlib.Omega.{arith}
 use Prim.Native.Nat.{ℕ, _+_, _*_, _≤_, _-_}
 use mathlib.Core.Path.{_≡_, _∙_, sym, ap, ap₂}

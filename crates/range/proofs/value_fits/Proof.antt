@@ -2,9 +2,6 @@
 use borrow.Author.Needs.{needs}
 use Rattle.range.proofs.value_fits.Statement.{statement}
 use Rattle.range.proofs.value_fits.Tie as tie
-use Rattle.range.proofs.value_fits.Reads as reads
-use Rattle.range.proofs.value_fits.Lts as lts
-use Rattle.command.proofs.is_command.Reads as is-command-reads
 use borrow.Author.Tests.{eq-eqb, ne-eqb}
 use Rattle.range.specs.Range.{valueFits}
 

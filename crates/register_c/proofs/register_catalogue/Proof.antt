@@ -2,10 +2,6 @@
 use borrow.Author.Needs.{needs}
 use Rattle.register_c.proofs.register_catalogue.Statement.{statement}
 use Rattle.register_c.proofs.register_catalogue.Tie as tie
-use Rattle.register_c.proofs.register_catalogue.Reads as reads
-use Rattle.register_c.proofs.register_catalogue.Lts as lts
-use Rattle.catalogue.proofs.catalogue.Reads as catalogue-reads
-use Rattle.register_c.proofs.pack.Reads as pack-reads
 use mathlib.Core.Path.{_∙_, sym, ap}
 use Rattle.register_c.specs.Packing.{packedListing}
 use Rattle.register_c.proofs.Halves.{no-word}

@@ -2,17 +2,10 @@
 use borrow.Author.Needs.{needs}
 use Rattle.register_c.proofs.register_length.Statement.{statement}
 use Rattle.register_c.proofs.register_length.Tie as tie
-use Rattle.register_c.proofs.register_length.Reads as reads
-use Rattle.register_c.proofs.register_length.Lts as lts
-use Rattle.layout.proofs.room_length.Reads as room-length-reads
-use Rattle.layout.proofs.sizes_fit.Reads as sizes-fit-reads
 use native.Mathlib.Omega.{arith}
-use mathlib.Core.Path.{_≡_, _∙_, sym, ap}
-use mathlib.Core.Bool.{true, false}
+use mathlib.Core.Path.{_∙_, sym}
 use borrow.Author.Tests.{not-true, not-false}
-use Rattle.layout.specs.Places.{sizesFit, roomLength}
 use Rattle.layout.proofs.PlaceLaws.{fit-of, room-bound}
-use Rattle.state.specs.Server.{pickNumber}
 
 sizes-fit-requires : tie.Need-sizes-fit-requires
 sizes-fit-requires c κs = search needs

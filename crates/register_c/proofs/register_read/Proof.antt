@@ -2,10 +2,6 @@
 use borrow.Author.Needs.{needs}
 use Rattle.register_c.proofs.register_read.Statement.{statement}
 use Rattle.register_c.proofs.register_read.Tie as tie
-use Rattle.register_c.proofs.register_read.Reads as reads
-use Rattle.register_c.proofs.register_read.Lts as lts
-use Rattle.record.proofs.read_record.Reads as read-record-reads
-use Rattle.register_c.proofs.pack.Reads as pack-reads
 use mathlib.Core.Path.{_∙_, sym, ap}
 use Rattle.register_c.specs.Packing.{packedReading}
 use Rattle.register_c.proofs.Halves.{no-word}

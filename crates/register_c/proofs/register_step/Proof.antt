@@ -2,15 +2,7 @@
 use borrow.Author.Needs.{needs}
 use Rattle.register_c.proofs.register_step.Statement.{statement}
 use Rattle.register_c.proofs.register_step.Tie as tie
-use Rattle.register_c.proofs.register_step.Reads as reads
-use Rattle.register_c.proofs.register_step.Lts as lts
-use Rattle.record.proofs.read_record.Reads as read-record-reads
-use Rattle.register_c.proofs.answer_word.Reads as answer-word-reads
-use Rattle.register_c.proofs.pack.Reads as pack-reads
-use Rattle.room.proofs.stepping.step.Reads as step-reads
-use Prim.Native.Nat.{ℕ}
-use mathlib.Core.List.{List}
-use mathlib.Core.Path.{_≡_, _∙_, sym, ap}
+use mathlib.Core.Path.{_∙_, sym, ap}
 use Rattle.record.specs.declared.Reading.{Reading}
 use Rattle.register_c.specs.Packing.{packedAnswer}
 use Rattle.register_c.specs.Calls.{recordAnswered, recordStepped}

@@ -2,11 +2,6 @@
 use borrow.Author.Needs.{needs}
 use Rattle.register_c.proofs.register_write.Statement.{statement}
 use Rattle.register_c.proofs.register_write.Tie as tie
-use Rattle.register_c.proofs.register_write.Reads as reads
-use Rattle.register_c.proofs.register_write.Lts as lts
-use Rattle.record.proofs.write_record.Reads as write-record-reads
-use Rattle.register_c.proofs.pack.Reads as pack-reads
-use Rattle.register_c.proofs.steps.step_of.Reads as step-of-reads
 use mathlib.Core.Path.{_∙_, sym, ap}
 use borrow.Author.Tests.{not-true, not-false}
 use Rattle.register_c.specs.Packing.{packedWriting}

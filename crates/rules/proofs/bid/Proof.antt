@@ -2,20 +2,15 @@
 use borrow.Author.Needs.{needs}
 use Rattle.rules.proofs.bid.Statement.{statement}
 use Rattle.rules.proofs.bid.Tie as tie
-use Rattle.rules.proofs.bid.Reads as reads
-use Rattle.rules.proofs.bid.Lts as lts
-use Rattle.ballot.proofs.is_own.Reads as is-own-reads
-use Rattle.rules.proofs.in_ballot.Reads as in-ballot-reads
-use Rattle.rules.proofs.restart.Reads as restart-reads
 use mathlib.Core.Path.{_∙_, sym}
 use borrow.Author.Tests.{lt-ltb, le-ltb, not-true, not-false}
-use Rattle.synod.specs.Rules.{must, bidRule}
+use Rattle.synod.specs.Rules.{must, bidSays}
 
 is-own-requires : tie.Need-is-own-requires
 is-own-requires c κs = search needs
 
 returns : tie.Need-returns
-unfolding must bidRule
+unfolding must bidSays
 returns c =
     let at-is-own = c .before .is-own in
     let at-if1 = c .if1 in
@@ -25,7 +20,7 @@ in-ballot-requires : tie.Need-in-ballot-requires
 in-ballot-requires c κs = search needs
 
 returns-2 : tie.Need-returns-2
-unfolding must bidRule
+unfolding must bidSays
 returns-2 c =
     let at-is-own = c .before .before .before .is-own in
     let at-if1 = c .before .before .if1 in
@@ -34,7 +29,7 @@ returns-2 c =
     simp (sym (at-is-own .ensures) ∙ not-false _ (at-if1 .left), sym (at-in-ballot .ensures) ∙ not-true _ (at-if2 .taken))
 
 returns-3 : tie.Need-returns-3
-unfolding must bidRule
+unfolding must bidSays
 returns-3 c =
     let at-is-own = c .before .before .before .before .before .is-own in
     let at-if1 = c .before .before .before .before .if1 in
@@ -47,7 +42,7 @@ restart-requires : tie.Need-restart-requires
 restart-requires c κs = search needs
 
 returns-4 : tie.Need-returns-4
-unfolding must bidRule
+unfolding must bidSays
 returns-4 c =
     let at-is-own = c .before .before .before .before .before .before .is-own in
     let at-if1 = c .before .before .before .before .before .if1 in

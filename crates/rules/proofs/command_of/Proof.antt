@@ -1,8 +1,6 @@
 -- `rules::command_of` meets its contract: the test says which command is tried.
 use Rattle.rules.proofs.command_of.Statement.{statement}
 use Rattle.rules.proofs.command_of.Tie as tie
-use Rattle.rules.proofs.command_of.Reads as reads
-use Rattle.rules.proofs.command_of.Lts as lts
 use borrow.Author.Tests.{eq-eqb, ne-eqb}
 
 returns : tie.Need-returns

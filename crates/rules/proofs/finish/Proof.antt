@@ -6,13 +6,13 @@ use mathlib.Core.Path.{_∙_, sym}
 use borrow.Author.Tests.{eq-eqb, ne-eqb, not-true, not-false}
 use Rattle.rules.proofs.Judged.{judged}
 use Rattle.synod.specs.Changes.{proposing, committing}
-use Rattle.synod.specs.Rules.{must, completeOn, finishRule}
+use Rattle.synod.specs.Rules.{must, completeOn, finishSays}
 
 in-ballot-requires : tie.Need-in-ballot-requires
 in-ballot-requires c κs = search needs
 
 returns : tie.Need-returns
-unfolding must finishRule
+unfolding must finishSays
 returns c =
     let at-in-ballot = c .before .in-ballot in
     let at-if1 = c .if1 in
@@ -25,7 +25,7 @@ is-majority-requires : tie.Need-is-majority-requires
 is-majority-requires c κs = search needs
 
 returns-2 : tie.Need-returns-2
-unfolding must finishRule
+unfolding must finishSays
 returns-2 c =
     let at-args = c .before .before .before .before .before .args in
     let at-complete = c .before .before .complete in
@@ -40,7 +40,7 @@ command-of-requires : tie.Need-command-of-requires
 command-of-requires c κs = search needs
 
 returns-3 : tie.Need-returns-3
-unfolding must finishRule
+unfolding must finishSays
 returns-3 c =
     let at-args = c .before .before .before .before .before .before .before .before .before .args in
     let at-complete = c .before .before .before .before .before .before .complete in
@@ -61,7 +61,7 @@ cleared-requires : tie.Need-cleared-requires
 cleared-requires c κs = search needs
 
 returns-4 : tie.Need-returns-4
-unfolding must finishRule proposing
+unfolding must finishSays proposing
 returns-4 c =
     let at-args = c .before .before .before .before .before .before .before .before .before .before .before .args in
     let at-complete = c .before .before .before .before .before .before .before .before .complete in
@@ -87,7 +87,7 @@ cleared-requires-2 : tie.Need-cleared-requires-2
 cleared-requires-2 c κs = search needs
 
 returns-5 : tie.Need-returns-5
-unfolding must finishRule committing
+unfolding must finishSays committing
 returns-5 c =
     let at-args = c .before .before .before .before .before .before .before .before .before .before .args in
     let at-complete = c .before .before .before .before .before .before .before .complete in

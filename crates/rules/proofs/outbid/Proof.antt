@@ -2,12 +2,8 @@
 use borrow.Author.Needs.{needs}
 use Rattle.rules.proofs.outbid.Statement.{statement}
 use Rattle.rules.proofs.outbid.Tie as tie
-use Rattle.rules.proofs.outbid.Reads as reads
-use Rattle.rules.proofs.outbid.Lts as lts
-use Rattle.ballot.proofs.next_own.Reads as next-own-reads
-use Rattle.rules.proofs.restart.Reads as restart-reads
 use mathlib.Core.Path.{_∙_, sym, ap}
-use Rattle.synod.specs.Rules.{outbidRule}
+use Rattle.synod.specs.Rules.{outbidRule, outbidSays, must}
 use Rattle.state.specs.declared.Server.{Server}
 use Rattle.state.specs.declared.Answer.the-variants.{Outbid}
 use Rattle.synod.specs.declared.Ruling.the-variants.{Accepted}
@@ -25,7 +21,7 @@ enum-told : tie.Need-enum-told
 enum-told c = search needs
 
 returns : tie.Need-returns
-unfolding outbidRule
+unfolding outbidSays must
 returns c =
     let at-args = c .before .before .before .before .before .args in
     let at-restart = c .restart in
@@ -35,7 +31,7 @@ returns c =
     ∙ sym (ap (outbidRule (at-args .v) (at-args .found)) (sym (at-next-own .ensures) ∙ at-next .given .1))
 
 returns-2 : tie.Need-returns-2
-unfolding outbidRule
+unfolding outbidSays must
 returns-2 c =
     let at-args = c .before .before .before .args in
     let at-next-own = c .before .before .next-own in

@@ -2,23 +2,16 @@
 use borrow.Author.Needs.{needs}
 use Rattle.rules.proofs.read.Statement.{statement}
 use Rattle.rules.proofs.read.Tie as tie
-use Rattle.rules.proofs.read.Reads as reads
-use Rattle.rules.proofs.read.Lts as lts
-use Rattle.quorum.proofs.has_mark.Reads as has-mark-reads
-use Rattle.quorum.proofs.with_mark.Reads as with-mark-reads
-use Rattle.rules.proofs.in_ballot.Reads as in-ballot-reads
-use Rattle.rules.proofs.meet.Reads as meet-reads
-use Rattle.rules.proofs.outbid.Reads as outbid-reads
 use mathlib.Core.Path.{_∙_, sym}
 use borrow.Author.Tests.{lt-ltb, le-ltb, not-true, not-false}
 use Rattle.synod.specs.Changes.{reading, marking}
-use Rattle.synod.specs.Rules.{must, readRule}
+use Rattle.synod.specs.Rules.{must, readSays}
 
 in-ballot-requires : tie.Need-in-ballot-requires
 in-ballot-requires c κs = search needs
 
 returns : tie.Need-returns
-unfolding must readRule
+unfolding must readSays
 returns c =
     let at-in-ballot = c .before .in-ballot in
     let at-if1 = c .if1 in
@@ -28,7 +21,7 @@ has-mark-requires : tie.Need-has-mark-requires
 has-mark-requires c κs = search needs
 
 returns-2 : tie.Need-returns-2
-unfolding must readRule
+unfolding must readSays
 returns-2 c =
     let at-in-ballot = c .before .before .before .in-ballot in
     let at-if1 = c .before .before .if1 in
@@ -40,7 +33,7 @@ has-mark-requires-2 : tie.Need-has-mark-requires-2
 has-mark-requires-2 c κs = search needs
 
 returns-3 : tie.Need-returns-3
-unfolding must readRule
+unfolding must readSays
 returns-3 c =
     let at-in-ballot = c .before .before .before .before .before .in-ballot in
     let at-if1 = c .before .before .before .before .if1 in
@@ -54,7 +47,7 @@ outbid-requires : tie.Need-outbid-requires
 outbid-requires c κs = search needs
 
 returns-4 : tie.Need-returns-4
-unfolding must readRule
+unfolding must readSays
 returns-4 c =
     let at-in-ballot = c .before .before .before .before .before .before .before .before .before .in-ballot in
     let at-if1 = c .before .before .before .before .before .before .before .before .if1 in
@@ -79,7 +72,7 @@ meet-requires : tie.Need-meet-requires
 meet-requires c κs = search needs
 
 returns-5 : tie.Need-returns-5
-unfolding must readRule reading marking
+unfolding must readSays reading marking
 returns-5 c =
     let at-in-ballot = c .before .before .before .before .before .before .before .before .before .before .in-ballot in
     let at-if1 = c .before .before .before .before .before .before .before .before .before .if1 in

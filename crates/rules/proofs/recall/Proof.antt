@@ -2,19 +2,13 @@
 use borrow.Author.Needs.{needs}
 use Rattle.rules.proofs.recall.Statement.{statement}
 use Rattle.rules.proofs.recall.Tie as tie
-use Rattle.rules.proofs.recall.Reads as reads
-use Rattle.rules.proofs.recall.Lts as lts
-use Rattle.quorum.proofs.has_mark.Reads as has-mark-reads
-use Rattle.quorum.proofs.with_mark.Reads as with-mark-reads
-use Rattle.rules.proofs.larger.Reads as larger-reads
-use Rattle.rules.proofs.meet.Reads as meet-reads
 use mathlib.Core.Path.{_∙_, sym}
 use borrow.Author.Tests.{eq-eqb, ne-eqb}
 use Rattle.synod.specs.Changes.{recalling, topping, marking}
-use Rattle.synod.specs.Rules.{must, recallRule}
+use Rattle.synod.specs.Rules.{must, recallSays}
 
 returns : tie.Need-returns
-unfolding must recallRule
+unfolding must recallSays
 returns c =
     let at-if1 = c .if1 in
     simp (ne-eqb _ _ (at-if1 .taken))
@@ -23,7 +17,7 @@ has-mark-requires : tie.Need-has-mark-requires
 has-mark-requires c κs = search needs
 
 returns-2 : tie.Need-returns-2
-unfolding must recallRule
+unfolding must recallSays
 returns-2 c =
     let at-if1 = c .before .before .if1 in
     let at-has-mark = c .before .has-mark in
@@ -46,7 +40,7 @@ meet-requires : tie.Need-meet-requires
 meet-requires c κs = search needs
 
 returns-3 : tie.Need-returns-3
-unfolding must recallRule recalling topping marking
+unfolding must recallSays recalling topping marking
 returns-3 c =
     let at-if1 = c .before .before .before .before .before .if1 in
     let at-has-mark = c .before .before .before .before .has-mark in

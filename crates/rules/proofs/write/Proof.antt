@@ -2,21 +2,16 @@
 use borrow.Author.Needs.{needs}
 use Rattle.rules.proofs.write.Statement.{statement}
 use Rattle.rules.proofs.write.Tie as tie
-use Rattle.rules.proofs.write.Reads as reads
-use Rattle.rules.proofs.write.Lts as lts
-use Rattle.quorum.proofs.has_mark.Reads as has-mark-reads
-use Rattle.quorum.proofs.with_mark.Reads as with-mark-reads
-use Rattle.rules.proofs.in_ballot.Reads as in-ballot-reads
 use mathlib.Core.Path.{_∙_, sym}
 use borrow.Author.Tests.{not-true, not-false}
 use Rattle.synod.specs.Changes.{writing}
-use Rattle.synod.specs.Rules.{must, writeRule}
+use Rattle.synod.specs.Rules.{must, writeSays}
 
 in-ballot-requires : tie.Need-in-ballot-requires
 in-ballot-requires c κs = search needs
 
 returns : tie.Need-returns
-unfolding must writeRule
+unfolding must writeSays
 returns c =
     let at-in-ballot = c .before .in-ballot in
     let at-if1 = c .if1 in
@@ -26,7 +21,7 @@ has-mark-requires : tie.Need-has-mark-requires
 has-mark-requires c κs = search needs
 
 returns-2 : tie.Need-returns-2
-unfolding must writeRule
+unfolding must writeSays
 returns-2 c =
     let at-in-ballot = c .before .before .before .in-ballot in
     let at-if1 = c .before .before .if1 in
@@ -38,7 +33,7 @@ with-mark-requires : tie.Need-with-mark-requires
 with-mark-requires c κs = search needs
 
 returns-3 : tie.Need-returns-3
-unfolding must writeRule writing
+unfolding must writeSays writing
 returns-3 c =
     let at-in-ballot = c .before .before .before .before .in-ballot in
     let at-if1 = c .before .before .before .if1 in

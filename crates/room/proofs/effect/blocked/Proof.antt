@@ -2,8 +2,6 @@
 use borrow.Author.Needs.{needs}
 use Rattle.room.proofs.effect.blocked.Statement.{statement}
 use Rattle.room.proofs.effect.blocked.Tie as tie
-use Rattle.room.proofs.effect.blocked.Reads as reads
-use Rattle.room.proofs.effect.blocked.Lts as lts
 use mathlib.Core.Path.{sym, ap}
 use Rattle.room.specs.Judge.{blocking}
 

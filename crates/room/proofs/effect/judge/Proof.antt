@@ -2,14 +2,6 @@
 use borrow.Author.Needs.{needs}
 use Rattle.room.proofs.effect.judge.Statement.{statement}
 use Rattle.room.proofs.effect.judge.Tie as tie
-use Rattle.room.proofs.effect.judge.Reads as reads
-use Rattle.room.proofs.effect.judge.Lts as lts
-use Rattle.command.proofs.limits.Reads as limits-reads
-use Rattle.layout.proofs.sizes.Reads as sizes-reads
-use Rattle.range.proofs.in_range.Reads as in-range-reads
-use Rattle.room.proofs.effect.rule.Reads as rule-reads
-use Rattle.rules.proofs.arguments.command_fits.Reads as command-fits-reads
-use Rattle.rules.proofs.arguments.places_fit.Reads as places-fit-reads
 use native.Mathlib.Omega.{arith}
 use mathlib.Core.Path.{_∙_, sym, ap, subst⁻¹}
 use mathlib.Core.List.{List}

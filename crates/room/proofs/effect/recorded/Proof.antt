@@ -2,8 +2,6 @@
 use borrow.Author.Needs.{needs}
 use Rattle.room.proofs.effect.recorded.Statement.{statement}
 use Rattle.room.proofs.effect.recorded.Tie as tie
-use Rattle.room.proofs.effect.recorded.Reads as reads
-use Rattle.room.proofs.effect.recorded.Lts as lts
 use mathlib.Core.Path.{sym, ap}
 use Rattle.room.specs.Judge.{recording}
 

@@ -2,25 +2,11 @@
 use borrow.Author.Needs.{needs}
 use Rattle.room.proofs.effect.rule.Statement.{statement}
 use Rattle.room.proofs.effect.rule.Tie as tie
-use Rattle.room.proofs.effect.rule.Reads as reads
-use Rattle.room.proofs.effect.rule.Lts as lts
-use Rattle.layout.proofs.block.Reads as block-reads
-use Rattle.layout.proofs.server.Reads as server-reads
-use Rattle.quorum.proofs.with_mark.Reads as with-mark-reads
-use Rattle.quorum.proofs.without_mark.Reads as without-mark-reads
-use Rattle.room.proofs.effect.blocked.Reads as blocked-reads
-use Rattle.room.proofs.effect.recorded.Reads as recorded-reads
-use Rattle.rules.proofs.bid.Reads as bid-reads
-use Rattle.rules.proofs.finish.Reads as finish-reads
-use Rattle.rules.proofs.offer.Reads as offer-reads
-use Rattle.rules.proofs.read.Reads as read-reads
-use Rattle.rules.proofs.recall.Reads as recall-reads
-use Rattle.rules.proofs.rejoin.Reads as rejoin-reads
-use Rattle.rules.proofs.write.Reads as write-reads
 use native.Mathlib.Omega.{arith}
 use mathlib.Core.Path.{subst}
 use Rattle.layout.proofs.PlaceLaws.{base-room}
 use Rattle.room.specs.Judge.{ruled}
+use Rattle.synod.specs.Rules as machine
 use Rattle.synod.proofs.Places.{Placed, placed}
 
 shared-slice-read-off : tie.Need-shared-slice-read-off
@@ -177,7 +163,7 @@ without-mark-requires : tie.Need-without-mark-requires
 without-mark-requires c κs = search needs
 
 returns : tie.Need-returns
-unfolding ruled
+unfolding ruled machine.ruleOf
 returns c =
     let at-step = c .before .before .before .before .step in
     let at-recorded = c .recorded in
@@ -186,7 +172,7 @@ returns c =
     rw (at-step .given .1, at-recorded .ensures, at-offer .ensures, at-server .ensures)
 
 returns-2 : tie.Need-returns-2
-unfolding ruled
+unfolding ruled machine.ruleOf
 returns-2 c =
     let at-step2 = c .before .before .before .before .before .step2 in
     let at-recorded2 = c .recorded2 in
@@ -196,7 +182,7 @@ returns-2 c =
     rw (at-step2 .given .1, at-recorded2 .ensures, at-recall .ensures, at-block .ensures, at-server2 .ensures)
 
 returns-3 : tie.Need-returns-3
-unfolding ruled
+unfolding ruled machine.ruleOf
 returns-3 c =
     let at-step3 = c .before .before .before .before .step3 in
     let at-recorded3 = c .recorded3 in
@@ -205,7 +191,7 @@ returns-3 c =
     rw (at-step3 .given .1, at-recorded3 .ensures, at-rejoin .ensures, at-server3 .ensures)
 
 returns-4 : tie.Need-returns-4
-unfolding ruled
+unfolding ruled machine.ruleOf
 returns-4 c =
     let at-step4 = c .before .before .before .before .step4 in
     let at-recorded4 = c .recorded4 in
@@ -214,7 +200,7 @@ returns-4 c =
     rw (at-step4 .given .1, at-recorded4 .ensures, at-bid .ensures, at-server4 .ensures)
 
 returns-5 : tie.Need-returns-5
-unfolding ruled
+unfolding ruled machine.ruleOf
 returns-5 c =
     let at-step5 = c .before .before .before .before .step5 in
     let at-blocked = c .blocked in
@@ -223,7 +209,7 @@ returns-5 c =
     rw (at-step5 .given .1, at-blocked .ensures, at-write .ensures, at-server5 .ensures)
 
 returns-6 : tie.Need-returns-6
-unfolding ruled
+unfolding ruled machine.ruleOf
 returns-6 c =
     let at-step6 = c .before .before .before .before .before .step6 in
     let at-recorded5 = c .recorded5 in
@@ -233,7 +219,7 @@ returns-6 c =
     rw (at-step6 .given .1, at-recorded5 .ensures, at-read .ensures, at-block2 .ensures, at-server6 .ensures)
 
 returns-7 : tie.Need-returns-7
-unfolding ruled
+unfolding ruled machine.ruleOf
 returns-7 c =
     let at-step7 = c .before .before .before .before .step7 in
     let at-recorded6 = c .recorded6 in
@@ -242,20 +228,20 @@ returns-7 c =
     rw (at-step7 .given .1, at-recorded6 .ensures, at-finish .ensures, at-server7 .ensures)
 
 returns-8 : tie.Need-returns-8
-unfolding ruled
+unfolding ruled machine.ruleOf
 returns-8 c =
     let at-step8 = c .before .step8 in
     rw (at-step8 .given .1)
 
 returns-9 : tie.Need-returns-9
-unfolding ruled
+unfolding ruled machine.ruleOf
 returns-9 c =
     let at-step9 = c .before .before .step9 in
     let at-with-mark = c .with-mark in
     rw (at-step9 .given .1, at-with-mark .ensures)
 
 returns-10 : tie.Need-returns-10
-unfolding ruled
+unfolding ruled machine.ruleOf
 returns-10 c =
     let at-step10 = c .before .before .step10 in
     let at-without-mark = c .without-mark in

@@ -2,11 +2,6 @@
 use borrow.Author.Needs.{needs}
 use Rattle.room.proofs.opening.open.Statement.{statement}
 use Rattle.room.proofs.opening.open.Tie as tie
-use Rattle.room.proofs.opening.open.Reads as reads
-use Rattle.room.proofs.opening.open.Lts as lts
-use Rattle.layout.proofs.room_length.Reads as room-length-reads
-use Rattle.layout.proofs.sizes_fit.Reads as sizes-fit-reads
-use Rattle.layout.proofs.clear.Reads as clear-reads
 use native.Mathlib.Omega.{arith}
 use mathlib.Core.Path.{_∙_, sym, ap}
 use Prim.Native.Nat.{ℕ}

@@ -2,11 +2,6 @@
 use borrow.Author.Needs.{needs}
 use Rattle.room.proofs.stepping.fail.Statement.{statement}
 use Rattle.room.proofs.stepping.fail.Tie as tie
-use Rattle.room.proofs.stepping.fail.Reads as reads
-use Rattle.room.proofs.stepping.fail.Lts as lts
-use Rattle.layout.proofs.server.Reads as server-reads
-use Rattle.layout.proofs.store_server.Reads as store-server-reads
-use Rattle.state.proofs.Server.failed.Reads as failed-reads
 use native.Mathlib.Omega.{arith}
 use native.Mathlib.Numerals.{add-one}
 use Prim.Native.Nat.{ℕ, _-_, _≤_}

@@ -2,13 +2,6 @@
 use borrow.Author.Needs.{needs}
 use Rattle.room.proofs.stepping.settle.Statement.{statement}
 use Rattle.room.proofs.stepping.settle.Tie as tie
-use Rattle.room.proofs.stepping.settle.Reads as reads
-use Rattle.room.proofs.stepping.settle.Lts as lts
-use Rattle.layout.proofs.sizes.Reads as sizes-reads
-use Rattle.layout.proofs.store_block.Reads as store-block-reads
-use Rattle.layout.proofs.store_server.Reads as store-server-reads
-use Rattle.room.proofs.stepping.fail.Reads as fail-reads
-use Rattle.state.proofs.Server.own_block.Reads as own-block-reads
 use native.Mathlib.Omega.{arith}
 use Prim.Native.Nat.{ℕ, _<_}
 use mathlib.Core.Path.{subst, subst⁻¹}

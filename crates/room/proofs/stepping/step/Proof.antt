@@ -2,11 +2,6 @@
 use borrow.Author.Needs.{needs}
 use Rattle.room.proofs.stepping.step.Statement.{statement}
 use Rattle.room.proofs.stepping.step.Tie as tie
-use Rattle.room.proofs.stepping.step.Reads as reads
-use Rattle.room.proofs.stepping.step.Lts as lts
-use Rattle.room.proofs.effect.Effect.answer.Reads as answer-reads
-use Rattle.room.proofs.effect.judge.Reads as judge-reads
-use Rattle.room.proofs.stepping.settle.Reads as settle-reads
 use mathlib.Core.Path.{_∙_, ap, subst⁻¹}
 use Rattle.layout.specs.Cells.{sizesOf}
 use Rattle.room.specs.Judge.{answerOf}

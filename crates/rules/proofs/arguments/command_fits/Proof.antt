@@ -2,9 +2,6 @@
 use borrow.Author.Needs.{needs}
 use Rattle.rules.proofs.arguments.command_fits.Statement.{statement}
 use Rattle.rules.proofs.arguments.command_fits.Tie as tie
-use Rattle.rules.proofs.arguments.command_fits.Reads as reads
-use Rattle.rules.proofs.arguments.command_fits.Lts as lts
-use Rattle.command.proofs.is_command.Reads as is-command-reads
 use mathlib.Core.Path.{_≡_, refl, _∙_, sym, ap}
 use Rattle.synod.specs.Arguments.{commandFits}
 use Rattle.state.specs.declared.Step.{Step}

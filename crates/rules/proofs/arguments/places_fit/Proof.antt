@@ -2,9 +2,6 @@
 use borrow.Author.Needs.{needs}
 use Rattle.rules.proofs.arguments.places_fit.Statement.{statement}
 use Rattle.rules.proofs.arguments.places_fit.Tie as tie
-use Rattle.rules.proofs.arguments.places_fit.Reads as reads
-use Rattle.rules.proofs.arguments.places_fit.Lts as lts
-use Rattle.rules.proofs.arguments.in_room.Reads as in-room-reads
 use mathlib.Core.Path.{_∙_, sym, ap}
 use Rattle.synod.specs.Arguments.{placesFit}
 

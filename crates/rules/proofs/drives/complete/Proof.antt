@@ -2,11 +2,6 @@
 use borrow.Author.Needs.{needs}
 use Rattle.rules.proofs.drives.complete.Statement.{statement}
 use Rattle.rules.proofs.drives.complete.Tie as tie
-use Rattle.rules.proofs.drives.complete.Reads as reads
-use Rattle.rules.proofs.drives.complete.Lts as lts
-use Rattle.quorum.proofs.has_mark.Reads as has-mark-reads
-use Rattle.quorum.proofs.with_mark.Reads as with-mark-reads
-use Rattle.rules.proofs.drives.others_read.Reads as others-read-reads
 use native.Mathlib.Omega.{arith}
 use Prim.Native.Nat.{ℕ, _≤_, _-_}
 use mathlib.Core.Path.{_≡_, _∙_, sym, ap, ap₂}

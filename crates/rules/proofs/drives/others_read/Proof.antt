@@ -2,9 +2,6 @@
 use borrow.Author.Needs.{needs}
 use Rattle.rules.proofs.drives.others_read.Statement.{statement}
 use Rattle.rules.proofs.drives.others_read.Tie as tie
-use Rattle.rules.proofs.drives.others_read.Reads as reads
-use Rattle.rules.proofs.drives.others_read.Lts as lts
-use Rattle.quorum.proofs.has_mark.Reads as has-mark-reads
 use native.Mathlib.Omega.{arith}
 use Prim.Native.Nat.{_≤_, _-_}
 use mathlib.Core.Path.{_≡_, _∙_, sym, ap}

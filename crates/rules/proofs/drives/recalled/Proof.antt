@@ -2,10 +2,6 @@
 use borrow.Author.Needs.{needs}
 use Rattle.rules.proofs.drives.recalled.Statement.{statement}
 use Rattle.rules.proofs.drives.recalled.Tie as tie
-use Rattle.rules.proofs.drives.recalled.Reads as reads
-use Rattle.rules.proofs.drives.recalled.Lts as lts
-use Rattle.quorum.proofs.has_mark.Reads as has-mark-reads
-use Rattle.quorum.proofs.with_mark.Reads as with-mark-reads
 use native.Mathlib.Omega.{arith}
 use Prim.Native.Nat.{ℕ, _≤_, _-_}
 use mathlib.Core.Path.{_≡_, _∙_, sym, ap}

@@ -2,8 +2,6 @@
 use borrow.Author.Needs.{needs}
 use Rattle.room.proofs.effect.Effect.answer.Statement.{statement}
 use Rattle.room.proofs.effect.Effect.answer.Tie as tie
-use Rattle.room.proofs.effect.Effect.answer.Reads as reads
-use Rattle.room.proofs.effect.Effect.answer.Lts as lts
 use mathlib.Core.Path.{sym, ap}
 use Rattle.room.specs.Judge.{answerOf}
 
