@@ -20,9 +20,9 @@ module _ {A : Type 0} (refused : ℕ → A) where
   must-cases P true n rest stop way = way refl
   must-cases P false n rest stop way = stop
 
-  pub either-cases {ℓ} : (P : A → Type ℓ) (t : Bool) (x y : A) → (t ≡ true → P x) → (t ≡ false → P y) → P (cond t x y)
-  either-cases P true x y left right = left refl
-  either-cases P false x y left right = right refl
+pub either-cases {ℓ} : {A : Type 0} (P : A → Type ℓ) (t : Bool) (x y : A) → (t ≡ true → P x) → (t ≡ false → P y) → P (cond t x y)
+either-cases P true x y left right = left refl
+either-cases P false x y left right = right refl
 
 -- P holds of everything that the call can give, whatever its conditions
 abbrev pub AllGive : {A : Type 0} → (A → Type 0) → Checked A → Type 0

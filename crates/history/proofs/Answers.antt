@@ -12,7 +12,7 @@ use Rattle.state.specs.declared.Sizes.{Sizes}
 use Rattle.state.specs.declared.Step.{Step}
 use Rattle.state.specs.View.{Brings, Stores, Alone, View, AtSlot, AtServer, AtDrive, viewOf, slotAt}
 use Rattle.synod.specs.declared.Ruling.{Ruling}
-use Rattle.synod.specs.Rules.{Slot, configOf}
+use Rattle.synod.specs.Slot.{Slot, configOf}
 use Rattle.synod.specs.Rules as machine
 use Rattle.synod.proofs.Rulings.{Plain, plain}
 use Rattle.layout.specs.Cells.{offOf}

@@ -6,7 +6,7 @@ use mathlib.Core.List.{List, [], _∷_, List·Memᴰ, List·Memᴰ·head, List·
 use lib.Dec.{eqb}
 use borrow.Author.Tests.{eq-eqb, ne-eqb, eqb-true, eqb-false}
 use Rattle.lemmas.proofs.Tests.{by-test}
-use Rattle.synod.specs.Slot.{Tried}
+use Rattle.synod.proofs.Past.{Tried}
 use Rattle.history.specs.Run.{orElse}
 
 pub or-none : (a b : ℕ) → a ≡ 0 → orElse a b ≡ b

@@ -12,8 +12,9 @@ use Rattle.state.specs.declared.Step.{Step}
 use Rattle.synod.specs.declared.Ruling.{Ruling}
 use Rattle.synod.specs.Arguments.{placesFit, commandFits}
 use Rattle.synod.specs.Rules as slot
-use Rattle.synod.specs.Rules.{Slot, configOf, after}
-use Rattle.synod.specs.Slot.{Fits, Ghost, noted}
+use Rattle.synod.proofs.Machine.{after, Fits}
+use Rattle.synod.proofs.Past.{Ghost, noted}
+use Rattle.synod.specs.Slot.{Slot, configOf}
 use Rattle.synod.proofs.Alike.{Alike, alike-then, ruled-alike, after-alike}
 use Rattle.synod.proofs.Invariant.{Invariant}
 use Rattle.synod.proofs.Kept.{kept}

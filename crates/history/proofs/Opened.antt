@@ -11,8 +11,9 @@ use Rattle.state.specs.declared.Server.{Server}
 use Rattle.state.specs.declared.Sizes.{Sizes}
 use Rattle.state.specs.Block.{blank}
 use Rattle.state.specs.Server.{failed}
-use Rattle.synod.specs.Rules.{configOf}
-use Rattle.synod.specs.Slot.{noGhost, blankSlot}
+use Rattle.synod.proofs.Machine.{blankSlot}
+use Rattle.synod.proofs.Past.{noGhost}
+use Rattle.synod.specs.Slot.{configOf}
 use Rattle.synod.proofs.Invariant.{begins}
 use Rattle.layout.specs.Places.{base, roomLength, serverAt, nthBlockAt, blockAt, Fit}
 use Rattle.layout.specs.Cells.{serverIn, serverOf, blockIn, blockOf}

@@ -9,8 +9,8 @@ use Rattle.state.specs.declared.Sizes.{Sizes}
 use Rattle.state.specs.declared.Step.{Step}
 use Rattle.state.specs.Answers.{numberOf}
 use Rattle.state.specs.Server.{offerOf, outputOf}
-use Rattle.synod.specs.Rules.{Slot}
-use Rattle.synod.specs.Slot.{Ghost}
+use Rattle.synod.proofs.Past.{Ghost}
+use Rattle.synod.specs.Slot.{Slot}
 use Rattle.synod.proofs.Agreement.{agree, output-committed}
 use Rattle.synod.proofs.Outputs.{outputs}
 use Rattle.layout.specs.Cells.{sizesOf, serverOf}

@@ -6,8 +6,8 @@ use mathlib.Core.Bool.{true, cond}
 use mathlib.Core.List.{_∷_, List·Memᴰ, List·Memᴰ·head}
 use Rattle.state.specs.declared.Answer.{Answer}
 use Rattle.state.specs.declared.Answer.the-variants as answer
-use Rattle.synod.specs.Rules.{Slot, Config, updated}
-use Rattle.synod.specs.Slot.{Ghost, Tried, heard, withCommit}
+use Rattle.synod.proofs.Past.{Ghost, Tried, heard, noteCommit}
+use Rattle.synod.specs.Slot.{Slot, Config, updated}
 use Rattle.synod.proofs.Agreement.{agree, valid}
 use Rattle.synod.proofs.Ghosts.{tried}
 use Rattle.synod.proofs.Invariant.{Invariant}
@@ -70,9 +70,9 @@ quietly g h σ τ a b outs offs =
 
 -- a commit is a Choose: the server had no output, and the command is the one chosen before or a member of given
 commits
-    : (c : Config) (g : Ghost) (σ τ : Slot) (p b y : ℕ) → Invariant c (withCommit b y g) τ → outputs σ p ≡ 0
+    : (c : Config) (g : Ghost) (σ τ : Slot) (p b y : ℕ) → Invariant c (noteCommit b y g) τ → outputs σ p ≡ 0
     → ((q : ℕ) → outputs τ q ≡ updated (outputs σ) p y q) → ((q : ℕ) → offers τ q ≡ offers σ q)
-    → Moves g σ (Chooses p) y (withCommit b y g) τ
+    → Moves g σ (Chooses p) y (noteCommit b y g) τ
 commits c g σ τ p b y inv none outs offs =
     let this = valid inv {t = tried b y} (List·Memᴰ·head refl) in
     let all : (t : Tried) → List·Memᴰ t (tried b y ∷ g .commits) → t .command ≡ y = λ t m. agree inv m (List·Memᴰ·head refl) in

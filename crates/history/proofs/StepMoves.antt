@@ -13,8 +13,10 @@ use Rattle.state.specs.View.{Stores, Alone, View, AtSlot, viewOf, serverAt}
 use Rattle.synod.specs.declared.Ruling.{Ruling}
 use Rattle.synod.specs.declared.Ruling.the-variants.{Refused, Accepted}
 use Rattle.synod.specs.Arguments.{placesFit}
-use Rattle.synod.specs.Rules.{Slot, Config, configOf, ruled, after, offerSays, ruleOf}
-use Rattle.synod.specs.Slot.{Fits, Ghost, heard, ghostAfter, noted}
+use Rattle.synod.proofs.Machine.{ruled, after, Fits}
+use Rattle.synod.proofs.Past.{Ghost, heard, ghostAfter, noted}
+use Rattle.synod.specs.Rules.{offerRule, ruleOf}
+use Rattle.synod.specs.Slot.{Slot, Config, configOf}
 use Rattle.synod.proofs.Invariant.{Invariant}
 use Rattle.synod.proofs.Kept.{kept}
 use Rattle.synod.proofs.Outputs.{outputs, offers, told, outputsAt, outputsAfter, offersAt, offersAfter, outputs-told, offers-told, committed-by}
@@ -75,7 +77,7 @@ module _ (c : Config) (off : ℕ) (g : Ghost) (σ : Slot) where
   offered
       : (p s v : ℕ)
       → Moves g σ (Offers p v) 0 (noted g σ (Offer p s v) (ruled c off σ (Offer p s v))) (after σ (Offer p s v) (ruled c off σ (Offer p s v)))
-  unfolding ruleOf offerSays noted heard outputsAfter told offersAfter
+  unfolding ruleOf offerRule noted heard outputsAfter told offersAfter
   offered p s v =
       record {
         makes =
@@ -128,7 +130,7 @@ module _ (z : Sizes) (fits : Fits (configOf z)) (off : ℕ) (g : Ghost) (σ : Sl
   pub concerned
       : (st : Step) → placesFit z st ≡ true → (t : ℕ) → concerns t st ≡ true
       → MovesBy t g σ st (answerBy (ruled (configOf z) off σ st)) (noted g σ st (ruled (configOf z) off σ st)) (after σ st (ruled (configOf z) off σ st))
-  concerned (Offer p s v) h t e = unfold concerns moveOf ruleOf offerSays in rw e (offered (configOf z) off g σ p s v)
+  concerned (Offer p s v) h t e = unfold concerns moveOf ruleOf offerRule in rw e (offered (configOf z) off g σ p s v)
   concerned (Recall p s d) h t e = listener (Recall p s d) (alone-listens p s) h t e
   concerned (Rejoin p s b) h t e = listener (Rejoin p s b) (alone-listens p s) h t e
   concerned (Bid p s b) h t e = listener (Bid p s b) (alone-listens p s) h t e

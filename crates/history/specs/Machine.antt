@@ -6,7 +6,7 @@ use mathlib.Core.Path.{_≡_}
 use Rattle.state.specs.declared.Sizes.{Sizes}
 use Rattle.state.specs.declared.Step.{Step}
 use Rattle.state.specs.Server.{offerOf, outputOf}
-use Rattle.synod.specs.Rules.{updated}
+use Rattle.synod.specs.Slot.{updated}
 use Rattle.layout.specs.Cells.{serverOf}
 use Rattle.room.specs.Step.{answered, stepped}
 use Rattle.history.specs.Run.{Move, Offers, Chooses, Fails, Rests, moveOf}

@@ -7,7 +7,8 @@ use lib.ListN.{length, take, length-take}
 use Rattle.command.specs.Command.{cabinetLimits}
 use Rattle.state.specs.declared.Sizes.{Sizes}
 use Rattle.state.specs.declared.Step.{Step}
-use Rattle.synod.specs.Slot.{noGhost, blankSlot}
+use Rattle.synod.proofs.Machine.{blankSlot}
+use Rattle.synod.proofs.Past.{noGhost}
 use Rattle.layout.specs.Places.{Fit}
 use Rattle.layout.proofs.PlaceLaws.{fit-of}
 use Rattle.room.specs.Open.{openRefusal, opening, opened, openedCells}

@@ -12,7 +12,8 @@ use Rattle.state.specs.View.{Brings, Stores, Alone, View, AtSlot, AtServer, AtD
 use Rattle.synod.specs.declared.Ruling.{Ruling}
 use Rattle.synod.specs.declared.Ruling.the-variants as said
 use Rattle.synod.specs.Arguments.{placesFit, commandFits}
-use Rattle.synod.specs.Rules.{Rule, ruling, Slot, configOf, ruleOf, offAfter}
+use Rattle.synod.specs.Rules.{Rule, ruling, ruleOf, offAfter}
+use Rattle.synod.specs.Slot.{Slot, configOf}
 use Rattle.layout.specs.Cells.{sizesOf, offOf, serverOf, blockOf}
 use Rattle.range.specs.Range.{inRange}
 use Rattle.room.specs.declared.effect.Effect.{Effect}

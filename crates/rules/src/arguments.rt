@@ -1,6 +1,6 @@
 // Whether the numbers of a step fit the room: 01's refusals 4 and 5.
 ghost use mathlib.Core.Path.{_≡_};
-ghost use Rattle.synod.specs.Arguments.{serverFits, placesFit, commandFits};
+ghost use Rattle.synod.specs.Arguments.{inRoom, placesFit, commandFits};
 use command::is_command;
 use state::Sizes;
 use state::Step;
@@ -29,7 +29,7 @@ pub fn places_fit(z: Sizes, step: Step) -> bool
 }
 
 fn in_room(z: Sizes, server: u8, slot: u8) -> bool
-    ensures { λ r. ⌜ r ≡ serverFits z server slot ⌝ }
+    ensures { λ r. ⌜ r ≡ inRoom z server slot ⌝ }
 {
     ((server as u32) < z.servers) & ((slot as u32) < z.slots)
 }

@@ -4,7 +4,7 @@ ghost use mathlib.Core.Path.{_≡_};
 ghost use Prim.Native.Nat.{_≤_, max};
 ghost use Rattle.synod.specs.Changes.{meeting, bidding};
 ghost use Rattle.ballot.specs.Ballot.{nextOwn};
-ghost use Rattle.synod.specs.Rules.{balloting, commandOf, outbidRule, offerRule, recallRule, rejoinRule, bidRule, writeRule, readRule, finishRule};
+ghost use Rattle.synod.specs.Rules.{ruling, balloting, commandOf, outbidRule, offerRule, recallRule, rejoinRule, bidRule, writeRule, readRule, finishRule};
 use ballot::Next;
 use ballot::is_own;
 use ballot::next_own;
@@ -21,7 +21,7 @@ pub mod drives;
 
 // 1 Offer, in any phase.
 pub fn offer(mut v: Server, command: u32) -> Ruling
-    ensures { λ r. ⌜ r ≡ offerRule v command ⌝ }
+    ensures { λ r. ⌜ r ≡ ruling (offerRule v command) ⌝ }
 {
     v.offer = command;
     Ruling::Accepted(v, Answer::Done)
@@ -29,7 +29,7 @@ pub fn offer(mut v: Server, command: u32) -> Ruling
 
 // 2 Recall, phase 0: b is server p's own block on drive d.
 pub fn recall(off: u32, v: Server, b: Block, p: u8, d: u8) -> Ruling
-    ensures { λ r. ⌜ r ≡ recallRule off v b p d ⌝ }
+    ensures { λ r. ⌜ r ≡ ruling (recallRule off v b p d) ⌝ }
 {
     if v.phase != 0 {
         return Ruling::Refused(7);
@@ -46,7 +46,7 @@ pub fn recall(off: u32, v: Server, b: Block, p: u8, d: u8) -> Ruling
 // 3 Rejoin, phase 0, a majority recalled, the ballot p's and above top.
 pub fn rejoin(servers: u32, drives: u32, v: Server, p: u8, ballot: u32) -> Ruling
     requires { ⌜ drives ≤ 7 ⌝ }
-    ensures { λ r. ⌜ r ≡ rejoinRule servers drives v p ballot ⌝ }
+    ensures { λ r. ⌜ r ≡ ruling (rejoinRule servers drives v p ballot) ⌝ }
 {
     if !is_own(servers, p as u32, ballot) {
         return Ruling::Refused(6);
@@ -70,7 +70,7 @@ pub fn rejoin(servers: u32, drives: u32, v: Server, p: u8, ballot: u32) -> Rulin
 
 // 4 Bid, phase 1 or 2, the ballot p's and above the own mbal.
 pub fn bid(servers: u32, v: Server, p: u8, ballot: u32) -> Ruling
-    ensures { λ r. ⌜ r ≡ bidRule servers v p ballot ⌝ }
+    ensures { λ r. ⌜ r ≡ ruling (bidRule servers v p ballot) ⌝ }
 {
     if !is_own(servers, p as u32, ballot) {
         return Ruling::Refused(6);
@@ -86,7 +86,7 @@ pub fn bid(servers: u32, v: Server, p: u8, ballot: u32) -> Ruling
 
 // 5 Write, phase 1 or 2. The block to be written is the own block.
 pub fn write(off: u32, v: Server, d: u8) -> Ruling
-    ensures { λ r. ⌜ r ≡ writeRule off v d ⌝ }
+    ensures { λ r. ⌜ r ≡ ruling (writeRule off v d) ⌝ }
 {
     if !in_ballot(v) {
         return Ruling::Refused(7);
@@ -101,7 +101,7 @@ pub fn write(off: u32, v: Server, d: u8) -> Ruling
 
 // 6 Read, phase 1 or 2, d written in this phase: b is server q's block on drive d.
 pub fn read(servers: u32, off: u32, v: Server, b: Block, p: u8, d: u8, q: u8) -> Ruling
-    ensures { λ r. ⌜ r ≡ readRule servers off v b p d q ⌝ }
+    ensures { λ r. ⌜ r ≡ ruling (readRule servers off v b p d q) ⌝ }
 {
     if !in_ballot(v) {
         return Ruling::Refused(7);
@@ -123,7 +123,7 @@ pub fn read(servers: u32, off: u32, v: Server, b: Block, p: u8, d: u8, q: u8) ->
 // 7 Finish, phase 1 or 2, a majority of drives written with every other server's block read there.
 pub fn finish(servers: u32, drives: u32, v: Server, p: u8) -> Ruling
     requires { ⌜ (servers ≤ 4) × (drives ≤ 7) ⌝ }
-    ensures { λ r. ⌜ r ≡ finishRule servers drives v p ⌝ }
+    ensures { λ r. ⌜ r ≡ ruling (finishRule servers drives v p) ⌝ }
 {
     if !in_ballot(v) {
         return Ruling::Refused(7);
@@ -149,7 +149,7 @@ pub fn finish(servers: u32, drives: u32, v: Server, p: u8) -> Ruling
 
 // A block with a ballot that is not below the own one was found.
 fn outbid(servers: u32, v: Server, p: u8, found: u32) -> Ruling
-    ensures { λ r. ⌜ r ≡ outbidRule v found (nextOwn servers p found) ⌝ }
+    ensures { λ r. ⌜ r ≡ ruling (outbidRule v found (nextOwn servers p found)) ⌝ }
 {
     match next_own(servers, p as u32, found) {
         Next::Ballot(next) => Ruling::Accepted(restart(v, next), Answer::Outbid(found)),

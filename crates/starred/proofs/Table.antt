@@ -9,9 +9,10 @@ use Rattle.ballot.specs.Ballot.{owned, leastAbove, nextOwn}
 use Rattle.quorum.specs.Marks.{stands, marked}
 use Rattle.quorum.specs.Sets.{allBelow, size, gathered, majority, within}
 use Rattle.synod.specs.Arguments.{placesFit, commandFits}
-use Rattle.synod.specs.Changes.{offering, meeting, marking, topping, recalling, rejoining, bidding, writing, reading, proposing}
+use Rattle.synod.specs.Changes.{meeting, marking, topping, recalling, rejoining, bidding, writing, reading, proposing}
 use Rattle.synod.specs.Rules as machine
-use Rattle.synod.specs.Rules.{must, bidSays, finishSays, offerSays, outbidSays, readSays, recallSays, rejoinSays, writeSays}
+use Rattle.checks.specs.Checks.{must}
+use Rattle.synod.specs.Rules.{bidRule, finishRule, offerRule, outbidRule, readRule, recallRule, rejoinRule, writeRule}
 use Rattle.layout.specs.Places.{slotLength, roomLength, slotAt, serverAt, nthBlockAt, blockAt, sizesFit}
 use Rattle.layout.specs.Cells.{serverOf, putServer, blockOf, putBlock}
 use Rattle.range.specs.Range.{legalDrives, legalReads, valueFits, numbersFit, serverFits, blockFits, serversFit, blocksFit, slotFits, cellsFit, inRange}
@@ -29,8 +30,8 @@ pub starred-hold : allHold starred ≡ true
 unfolding allHold starred holds newRoom own onDrive sameAnswer sameBlock follows onesIn ones
     limitOf hoardFits isCommand owned leastAbove nextOwn stands marked allBelow size gathered majority within
     placesFit commandFits
-    offering meeting marking topping recalling rejoining bidding writing reading proposing
-    must offerSays recallSays rejoinSays bidSays writeSays outbidSays readSays finishSays
+    meeting marking topping recalling rejoining bidding writing reading proposing
+    must offerRule recallRule rejoinRule bidRule writeRule outbidRule readRule finishRule
     slotLength roomLength slotAt serverAt nthBlockAt blockAt sizesFit serverOf putServer blockOf putBlock
     legalDrives legalReads valueFits numbersFit serverFits blockFits serversFit blocksFit slotFits cellsFit inRange
     openedCells opening opened check ruled machine.ruleOf judged failedBelow settled answered stepped

@@ -1,4 +1,5 @@
--- The server record and what it shows (01, "The room in memory", "The ten steps", "The one-value machine").
+-- The server record, the ways in which it changes, and what it shows (SPEC, "The room in memory", "The ten steps", "The
+-- one-value machine"). The three with… are the only places that name every cell of a changed record.
 use Prim.Native.Nat.{ℕ}
 use mathlib.Core.Bool.{cond}
 use lib.Dec.{eqb}
@@ -21,23 +22,43 @@ withOwn v phase own =
       read = v .read;
     }
 
--- clear "means written, read, top become 0 and seenbal, seeninp become the own bal, inp"
-abbrev pub cleared : Server → Server
-cleared v =
+-- the record with this offer
+abbrev pub withOffer : Server → ℕ → Server
+withOffer v offer =
+    record {
+      phase = v .phase;
+      mbal = v .mbal;
+      bal = v .bal;
+      inp = v .inp;
+      offer = offer;
+      top = v .top;
+      seenbal = v .seenbal;
+      seeninp = v .seeninp;
+      written = v .written;
+      read = v .read;
+    }
+
+-- the record with these notes of its phase
+abbrev pub withNotes : Server → ℕ → ℕ → ℕ → ℕ → ℕ → Server
+withNotes v top seenbal seeninp written read =
     record {
       phase = v .phase;
       mbal = v .mbal;
       bal = v .bal;
       inp = v .inp;
       offer = v .offer;
-      top = 0;
-      seenbal = v .bal;
-      seeninp = v .inp;
-      written = 0;
-      read = 0;
+      top = top;
+      seenbal = seenbal;
+      seeninp = seeninp;
+      written = written;
+      read = read;
     }
 
--- "all ten cells of p become 0"
+-- clear: no marks and no top, and the own bal and inp are the best seen
+abbrev pub cleared : Server → Server
+cleared v = withNotes v 0 (v .bal) (v .inp) 0 0
+
+-- a server that has failed keeps nothing: every cell is 0
 abbrev pub failed : Server
 failed =
     record { phase = 0; mbal = 0; bal = 0; inp = 0; offer = 0; top = 0; seenbal = 0; seeninp = 0; written = 0; read = 0 }
@@ -46,10 +67,10 @@ failed =
 abbrev pub ownBlock : Server → Block
 ownBlock v = record { mbal = v .mbal; bal = v .bal; inp = v .inp }
 
--- "a room's output is inp in phase 3 if that isn't 0, else none": 0 is none
+-- the command that the slot was settled with, as far as the server knows: 0 is none
 abbrev pub outputOf : Server → ℕ
 outputOf v = cond (eqb (v .phase) 3) (v .inp) 0
 
--- "its offer is the offer cell, 0 being none"
+-- the command that the server offers: 0 is none
 abbrev pub offerOf : Server → ℕ
 offerOf v = v .offer

@@ -29,13 +29,13 @@ viewOf (Fail p) = AtServer p
 viewOf (DriveOff d) = AtDrive d false
 viewOf (DriveOn d) = AtDrive d true
 
--- the server that acts, and the slot; 0 where there is none
-abbrev pub serverAt : View → ℕ
-serverAt (AtSlot p s k) = p
-serverAt (AtServer p) = p
-serverAt (AtDrive d on) = 0
+-- the server that acts, and its slot; 0 where there is none
+abbrev pub viewServer : View → ℕ
+viewServer (AtSlot p s k) = p
+viewServer (AtServer p) = p
+viewServer (AtDrive d on) = 0
 
-abbrev pub slotAt : View → ℕ
-slotAt (AtSlot p s k) = s
-slotAt (AtServer p) = 0
-slotAt (AtDrive d on) = 0
+abbrev pub viewSlot : View → ℕ
+viewSlot (AtSlot p s k) = s
+viewSlot (AtServer p) = 0
+viewSlot (AtDrive d on) = 0

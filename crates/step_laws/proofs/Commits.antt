@@ -10,7 +10,8 @@ use Rattle.state.specs.declared.Step.the-variants.{Offer, Recall, Rejoin, Bid, 
 use Rattle.state.specs.Answers.{codeOf}
 use Rattle.state.specs.View.{viewOf, slotAt}
 use Rattle.synod.specs.declared.Ruling.{Ruling}
-use Rattle.synod.specs.Rules.{offerSays, recallSays, rejoinSays, bidSays, writeSays, outbidSays, readSays, finishSays, ruling, Slot, Config, configOf, ruleOf}
+use Rattle.synod.specs.Rules.{offerRule, recallRule, rejoinRule, bidRule, writeRule, outbidRule, readRule, finishRule, ruling, ruleOf}
+use Rattle.synod.specs.Slot.{Slot, Config, configOf}
 use Rattle.synod.proofs.Rulings.{AllDo, all-do, plain}
 use Rattle.layout.specs.Cells.{sizesOf, offOf}
 use Rattle.room.specs.declared.effect.Effect.{Effect}
@@ -29,7 +30,7 @@ Commits st a = codeOf a ≡ 3 → Finishes st
 
 -- what a kind's own rule answers: done or outbid, but for a Finish
 rule-commits : (c : Config) (off : ℕ) (σ : Slot) (st : Step) → AllDo (λ v a. Commits st a) (ruleOf c off σ st)
-unfolding ruleOf offerSays recallSays rejoinSays bidSays writeSays outbidSays readSays finishSays
+unfolding ruleOf offerRule recallRule rejoinRule bidRule writeRule outbidRule readRule finishRule
 rule-commits c off σ (Offer p s v) = λ e. absurd (omega arith)
 rule-commits c off σ (Recall p s d) = λ e. absurd (omega arith)
 rule-commits c off σ (Rejoin p s b) = λ e. absurd (omega arith)

@@ -4,7 +4,7 @@ use mathlib.Core.Path.{_≡_}
 use mathlib.Core.Bool.{false}
 use mathlib.Core.List.{List}
 use Rattle.state.specs.declared.Step.{Step}
-use Rattle.synod.specs.Rules.{configOf}
+use Rattle.synod.specs.Slot.{configOf}
 use Rattle.synod.proofs.Alike.{Alike, alike-same}
 use Rattle.layout.specs.Cells.{sizesOf}
 use Rattle.range.proofs.Laws.{range-says}

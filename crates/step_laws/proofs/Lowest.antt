@@ -18,7 +18,9 @@ use Rattle.state.specs.Answers.{stepRefusal}
 use Rattle.state.specs.View.{Brings, Stores, Alone, View, AtSlot, AtServer, AtDrive, viewOf, slotAt}
 use Rattle.synod.specs.declared.Ruling.{Ruling}
 use Rattle.synod.specs.declared.Ruling.the-variants.{Refused, Accepted}
-use Rattle.synod.specs.Rules.{must, Rule, Must, Either, Does, ruling, offerSays, recallSays, rejoinSays, bidSays, writeSays, outbidSays, readSays, finishSays, Slot, Config, configOf, ruleOf}
+use Rattle.checks.specs.Checks.{must, Must, Either, Gives}
+use Rattle.synod.specs.Rules.{Rule, ruling, offerRule, recallRule, rejoinRule, bidRule, writeRule, outbidRule, readRule, finishRule, ruleOf}
+use Rattle.synod.specs.Slot.{Slot, Config, configOf}
 use Rattle.synod.proofs.Rulings.{AllDo, all-do, Plain, plain}
 use Rattle.layout.specs.Cells.{sizesOf, offOf}
 use Rattle.room.specs.declared.effect.Effect.{Effect}
@@ -75,7 +77,7 @@ record Kind (r : Rule) : Type 0 where
   rising : rises 5 (refusalsIn true r []) ≡ true
 
 kind : (c : Config) (off : ℕ) (σ : Slot) (st : Step) → Kind (ruleOf c off σ st)
-unfolding ruleOf offerSays recallSays rejoinSays bidSays writeSays outbidSays readSays finishSays
+unfolding ruleOf offerRule recallRule rejoinRule bidRule writeRule outbidRule readRule finishRule
 kind c off σ (Offer p s v) = record { sound = refl; rising = refl }
 kind c off σ (Recall p s d) = record { sound = refl; rising = refl }
 kind c off σ (Rejoin p s b) = record { sound = refl; rising = refl }

@@ -15,8 +15,8 @@ use Rattle.state.specs.declared.Sizes.{Sizes}
 use Rattle.state.specs.Server.{failed, ownBlock}
 use Rattle.synod.specs.declared.Ruling.{Ruling}
 use Rattle.synod.specs.declared.Ruling.the-variants.{Refused, Accepted}
-use Rattle.synod.specs.Changes.{readBit, offering, meeting, marking, topping, recalling, rejoining, bidding, writing, reading, proposing, committing}
-use Rattle.synod.specs.Rules.{commandOf, offerRule, recallRule, rejoinRule, bidRule, writeRule, readRule, finishRule, offerSays}
+use Rattle.synod.specs.Changes.{readBit, meeting, marking, topping, recalling, rejoining, bidding, writing, reading, proposing, committing}
+use Rattle.synod.specs.Rules.{ruling, commandOf, offerRule, recallRule, rejoinRule, bidRule, writeRule, readRule, finishRule}
 use Rattle.synod.proofs.Rulings.{recall-cases, rejoin-cases, bid-cases, write-cases, read-cases, finish-cases}
 use Rattle.layout.specs.Places.{Fit}
 use Rattle.range.specs.Range.{masksOf, valueFits}
@@ -134,8 +134,8 @@ module _ (limits : List ℕ) (z : Sizes) where
         })
         t
 
-    pub offer-keeps : (c : ℕ) → isCommand limits c ≡ true → Keeps limits z (offerRule v c)
-    unfolding offerSays offering
+    pub offer-keeps : (c : ℕ) → isCommand limits c ≡ true → Keeps limits z (ruling (offerRule v c))
+    unfolding offerRule
     offer-keeps c e =
         record {
           phase = s .phase;
@@ -152,20 +152,20 @@ module _ (limits : List ℕ) (z : Sizes) where
 
     pub recall-keeps
         : (off : ℕ) (b : Block) (p d : ℕ) → BlockIn limits b → d < z .drives → p < z .servers
-        → Keeps limits z (recallRule off v b p d)
+        → Keeps limits z (ruling (recallRule off v b p d))
     recall-keeps off b p d t h l = recall-cases (Keeps limits z) (λ n. tt) v off b p d (λ e. recalling-in b p d t h l)
 
-    pub rejoin-keeps : (servers drives p b : ℕ) → Keeps limits z (rejoinRule servers drives v p b)
+    pub rejoin-keeps : (servers drives p b : ℕ) → Keeps limits z (ruling (rejoinRule servers drives v p b))
     unfolding rejoining
     rejoin-keeps servers drives p b =
         rejoin-cases (Keeps limits z) (λ n. tt) v servers drives p b
         (λ o e m t. fresh 1 b (v .seenbal) (v .seeninp) (v .offer) (omega arith) (owned-within servers p b o) (s .seenbal) (s .seeninp) (s .offer))
 
-    pub bid-keeps : (servers p b : ℕ) → Keeps limits z (bidRule servers v p b)
+    pub bid-keeps : (servers p b : ℕ) → Keeps limits z (ruling (bidRule servers v p b))
     bid-keeps servers p b =
         bid-cases (Keeps limits z) (λ n. tt) v servers p b (λ o e h. bidding-in v b s (owned-within servers p b o))
 
-    pub write-keeps : (off d : ℕ) → d < z .drives → Keeps limits z (writeRule off v d)
+    pub write-keeps : (off d : ℕ) → d < z .drives → Keeps limits z (ruling (writeRule off v d))
     unfolding writing
     write-keeps off d h =
         write-cases (Keeps limits z) (λ n. tt) v off d
@@ -185,14 +185,14 @@ module _ (limits : List ℕ) (z : Sizes) where
 
     pub read-keeps
         : (servers off : ℕ) (b : Block) (p d q : ℕ) → BlockIn limits b → d < z .drives → q < z .servers
-        → Keeps limits z (readRule servers off v b p d q)
+        → Keeps limits z (ruling (readRule servers off v b p d q))
     unfolding reading
     read-keeps servers off b p d q t h l =
         read-cases (Keeps limits z) (λ n. tt) v servers off b p d q
         (λ e w m. meeting-in (marking v d q) b (marking-in d q h l) t)
         (λ next e o m. bidding-in v next s (owned-within servers p next o))
 
-    pub finish-keeps : (servers drives p : ℕ) → Keeps limits z (finishRule servers drives v p)
+    pub finish-keeps : (servers drives p : ℕ) → Keeps limits z (ruling (finishRule servers drives v p))
     unfolding proposing committing
     finish-keeps servers drives p =
         finish-cases (Keeps limits z) (λ n. tt) v servers drives p

@@ -8,7 +8,8 @@ use lib.ListN.{set}
 use Rattle.state.specs.declared.Server.{Server}
 use Rattle.state.specs.declared.Sizes.{Sizes}
 use Rattle.state.specs.Server.{failed, ownBlock}
-use Rattle.synod.specs.Rules.{configOf, updated, withRecord, withBlock}
+use Rattle.synod.proofs.Machine.{withRecord, withBlock}
+use Rattle.synod.specs.Slot.{configOf, updated}
 use Rattle.synod.proofs.Alike.{Same, Alike}
 use Rattle.synod.proofs.Update.{everywhere}
 use Rattle.layout.specs.Places.{Row}

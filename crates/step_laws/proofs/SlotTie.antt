@@ -14,7 +14,8 @@ use Rattle.synod.specs.declared.Ruling.{Ruling}
 use Rattle.synod.specs.declared.Ruling.the-variants.{Refused, Accepted}
 use Rattle.synod.specs.Arguments.{placesFit}
 use Rattle.synod.specs.Rules as machine
-use Rattle.synod.specs.Rules.{Slot, configOf, afterView, after}
+use Rattle.synod.proofs.Machine.{afterView, after}
+use Rattle.synod.specs.Slot.{Slot, configOf}
 use Rattle.synod.proofs.Alike.{Alike, alike-same}
 use Rattle.synod.proofs.Places.{InView, in-view}
 use Rattle.synod.proofs.Rulings.{Plain, plain}

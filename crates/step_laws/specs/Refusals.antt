@@ -5,7 +5,8 @@ use mathlib.Core.Bool.{Bool, true, not, _&&_, cond}
 use mathlib.Core.List.{List, [], _∷_}
 use Rattle.state.specs.declared.Step.{Step}
 use Rattle.synod.specs.Arguments.{placesFit, commandFits}
-use Rattle.synod.specs.Rules.{Rule, Must, Either, Does}
+use Rattle.checks.specs.Checks.{Must, Either, Gives}
+use Rattle.synod.specs.Rules.{Rule}
 use Rattle.layout.specs.Cells.{sizesOf}
 use Rattle.range.specs.Range.{inRange}
 use Rattle.room.specs.Judge.{limitsOf, ruleAt}

@@ -5,7 +5,8 @@ use lib.Dec.{eqb}
 use Rattle.state.specs.declared.Sizes.{Sizes}
 use Rattle.state.specs.declared.Step.{Step}
 use Rattle.state.specs.View.{View, AtSlot, AtServer, AtDrive, viewOf}
-use Rattle.synod.specs.Rules.{Slot, configOf, ruled, after}
+use Rattle.synod.proofs.Machine.{ruled, after}
+use Rattle.synod.specs.Slot.{Slot, configOf}
 
 -- slot t is one that the step may change: the slot it names, every slot for Fail, none for a drive step
 abbrev pub concernsAt : ℕ → View → Bool

@@ -3,8 +3,8 @@ use Prim.Native.Nat.{ℕ, _<_, _≤_}
 use native.Mathlib.Omega.{arith}
 use mathlib.Core.Path.{_≡_, subst}
 use mathlib.Core.Logic.{_⊎_, inl, inr}
-use Rattle.synod.specs.Rules.{Node, Slot, Config}
-use Rattle.synod.specs.Slot.{Ghost}
+use Rattle.synod.proofs.Past.{Ghost}
+use Rattle.synod.specs.Slot.{Node, Slot, Config}
 use Rattle.synod.proofs.One.{Owns}
 use Rattle.ballot.proofs.Laws.{one-owner}
 use Rattle.synod.proofs.Ghosts.{Proposed, Committed}

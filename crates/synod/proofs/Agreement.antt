@@ -8,8 +8,8 @@ use mathlib.Core.List.{List·Memᴰ}
 use mathlib.Core.Path.{_≡_, refl, sym}
 use lib.Dec.{eqb}
 use Rattle.state.specs.Server.{outputOf}
-use Rattle.synod.specs.Rules.{Slot, Config}
-use Rattle.synod.specs.Slot.{Ghost, Tried}
+use Rattle.synod.proofs.Past.{Ghost, Tried}
+use Rattle.synod.specs.Slot.{Slot, Config}
 use Rattle.synod.proofs.Ghosts.{Offered, Committed}
 use Rattle.synod.proofs.Invariant.{Invariant}
 

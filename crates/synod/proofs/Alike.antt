@@ -12,7 +12,9 @@ use Rattle.state.specs.View.{Brings, Stores, Alone, View, AtSlot, AtServer, AtD
 use Rattle.synod.specs.declared.Ruling.{Ruling}
 use Rattle.synod.specs.declared.Ruling.the-variants.{Refused, Accepted}
 use Rattle.synod.specs.Arguments.{placesFit}
-use Rattle.synod.specs.Rules.{offerRule, recallRule, rejoinRule, bidRule, writeRule, readRule, finishRule, Node, Slot, Config, configOf, updated, withRecord, withBlock, slotAfter, ruled, after, ruleOf}
+use Rattle.synod.proofs.Machine.{withRecord, withBlock, slotAfter, ruled, after}
+use Rattle.synod.specs.Rules.{ruling, offerRule, recallRule, rejoinRule, bidRule, writeRule, readRule, finishRule, ruleOf}
+use Rattle.synod.specs.Slot.{Node, Slot, Config, configOf, updated}
 use Rattle.synod.proofs.Places.{at-server, at-drive, at-other}
 use Rattle.synod.proofs.Update.{both-everywhere}
 
@@ -69,17 +71,17 @@ module _ (z : Sizes) (off : ℕ) {σ τ : Slot} (like : Alike (configOf z) σ τ
 
   pub ruled-alike : (st : Step) → placesFit z st ≡ true → ruled (configOf z) off σ st ≡ ruled (configOf z) off τ st
   unfolding placesFit ruleOf
-  ruled-alike (Offer p s v) h = ap (λ x. offerRule x v) (own p (at-server z p s h .server))
+  ruled-alike (Offer p s v) h = ap (λ x. ruling (offerRule x v)) (own p (at-server z p s h .server))
   ruled-alike (Recall p s d) h =
       let at = at-drive z p s d h in
-      ap₂ (λ x b. recallRule off x b p d) (own p (at .server)) (like p (at .server) .disk d (at .drive))
-  ruled-alike (Rejoin p s b) h = ap (λ x. rejoinRule (z .servers) (z .drives) x p b) (own p (at-server z p s h .server))
-  ruled-alike (Bid p s b) h = ap (λ x. bidRule (z .servers) x p b) (own p (at-server z p s h .server))
-  ruled-alike (Write p s d) h = ap (λ x. writeRule off x d) (own p (at-drive z p s d h .server))
+      ap₂ (λ x b. ruling (recallRule off x b p d)) (own p (at .server)) (like p (at .server) .disk d (at .drive))
+  ruled-alike (Rejoin p s b) h = ap (λ x. ruling (rejoinRule (z .servers) (z .drives) x p b)) (own p (at-server z p s h .server))
+  ruled-alike (Bid p s b) h = ap (λ x. ruling (bidRule (z .servers) x p b)) (own p (at-server z p s h .server))
+  ruled-alike (Write p s d) h = ap (λ x. ruling (writeRule off x d)) (own p (at-drive z p s d h .server))
   ruled-alike (Read p s d q) h =
       let at = at-other z p s d q h in
-      ap₂ (λ x b. readRule (z .servers) off x b p d q) (own p (at .server)) (like q (at .other) .disk d (at .drive))
-  ruled-alike (Finish p s) h = ap (λ x. finishRule (z .servers) (z .drives) x p) (own p (at-server z p s h .server))
+      ap₂ (λ x b. ruling (readRule (z .servers) off x b p d q)) (own p (at .server)) (like q (at .other) .disk d (at .drive))
+  ruled-alike (Finish p s) h = ap (λ x. ruling (finishRule (z .servers) (z .drives) x p)) (own p (at-server z p s h .server))
   ruled-alike (Fail p) h = refl
   ruled-alike (DriveOff d) h = refl
   ruled-alike (DriveOn d) h = refl

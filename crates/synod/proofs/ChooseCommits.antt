@@ -8,8 +8,8 @@ use mathlib.Core.Path.{_≡_, sym, _∙_, ap, subst}
 use mathlib.Core.Logic.{_⊎_, inl, inr}
 use Rattle.ballot.proofs.Laws.{owned-positive}
 use Rattle.synod.specs.Changes.{proposing}
-use Rattle.synod.specs.Rules.{Slot, Config}
-use Rattle.synod.specs.Slot.{Ghost}
+use Rattle.synod.proofs.Past.{Ghost}
+use Rattle.synod.specs.Slot.{Slot, Config}
 use Rattle.synod.proofs.One.{Owns}
 use Rattle.synod.proofs.Ghosts.{Proposed, tried}
 use Rattle.synod.proofs.Update.{everywhere}

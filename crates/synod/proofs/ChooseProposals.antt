@@ -6,8 +6,8 @@ use mathlib.Core.List.{List·Memᴰ·head, List·Memᴰ·cases-cons}
 use mathlib.Core.Path.{_≡_, refl, sym, ap, subst}
 use mathlib.Core.Logic.{_⊎_, inl, inr}
 use Rattle.synod.specs.Changes.{proposing}
-use Rattle.synod.specs.Rules.{Slot, Config}
-use Rattle.synod.specs.Slot.{Ghost, Tried}
+use Rattle.synod.proofs.Past.{Ghost, Tried}
+use Rattle.synod.specs.Slot.{Slot, Config}
 use Rattle.synod.proofs.Ghosts.{Proposed, tried}
 use Rattle.synod.proofs.Grows.{Grows, with-proposal, sound-more, fair-more, known-more, offer-more}
 use Rattle.synod.proofs.Marks.{none-stands}

@@ -12,8 +12,8 @@ use lib.Dec.{eqb, leb}
 use Rattle.ballot.proofs.Laws.{owned-positive}
 use Rattle.lemmas.proofs.Tests.{and-left, and-right, and-intro}
 use Rattle.synod.specs.Changes.{proposing}
-use Rattle.synod.specs.Rules.{Node, Slot, Config}
-use Rattle.synod.specs.Slot.{Ghost, Tried}
+use Rattle.synod.proofs.Past.{Ghost, Tried}
+use Rattle.synod.specs.Slot.{Node, Slot, Config}
 use Rattle.synod.proofs.One.{Owns}
 use Rattle.synod.proofs.Logic.{clash, or-either, neither-first}
 use Rattle.synod.proofs.Ghosts.{Proposed, tried, Failing, sift}

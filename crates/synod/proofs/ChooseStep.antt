@@ -1,7 +1,7 @@
 -- Finish in phase 1: the new proposal keeps every part of the invariant.
 use Prim.Native.Nat.{ℕ}
-use Rattle.synod.specs.Rules.{Slot, Config}
-use Rattle.synod.specs.Slot.{Ghost}
+use Rattle.synod.proofs.Past.{Ghost}
+use Rattle.synod.specs.Slot.{Slot, Config}
 use Rattle.synod.proofs.Invariant.{Invariant}
 use Rattle.synod.proofs.Choosing.{Choice, past, next}
 use Rattle.synod.proofs.ChooseProposals.{each-kept, fair-kept, spread-kept, crossed-kept}

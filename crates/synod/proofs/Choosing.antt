@@ -9,8 +9,10 @@ use mathlib.Core.Logic.{_⊎_, inl, inr}
 use lib.Dec.{eqb}
 use Rattle.ballot.proofs.Laws.{one-owner}
 use Rattle.synod.specs.Changes.{proposing}
-use Rattle.synod.specs.Rules.{commandOf, Node, Slot, Config, withRecord, updated}
-use Rattle.synod.specs.Slot.{Ghost, withProposal}
+use Rattle.synod.proofs.Machine.{withRecord}
+use Rattle.synod.proofs.Past.{Ghost, noteProposal}
+use Rattle.synod.specs.Rules.{commandOf}
+use Rattle.synod.specs.Slot.{Node, Slot, Config, updated}
 use Rattle.synod.proofs.Ghosts.{Offered, Proposed, Known}
 use Rattle.synod.proofs.Update.{everywhere}
 use Rattle.synod.proofs.Quorums.{Quorum}
@@ -36,7 +38,7 @@ module _ {c : Config} {g : Ghost} {σ : Slot} {p : ℕ} (k : Choice c g σ p) wh
 
   -- the past, the server's node and the slot after the step
   abbrev pub past : Ghost
-  past = withProposal ballot command g
+  past = noteProposal ballot command g
 
   abbrev pub node : Node
   node = withRecord (σ p) (proposing (σ p .own) command)

@@ -4,8 +4,9 @@ use native.Mathlib.Nat.{le-of-eq}
 use mathlib.Core.Path.{_≡_, refl, sym, subst₂}
 use mathlib.Core.Logic.{_⊎_, inl}
 use Rattle.state.specs.declared.Server.{Server}
-use Rattle.synod.specs.Rules.{Node, Slot, Config, withRecord}
-use Rattle.synod.specs.Slot.{Ghost}
+use Rattle.synod.proofs.Machine.{withRecord}
+use Rattle.synod.proofs.Past.{Ghost}
+use Rattle.synod.specs.Slot.{Node, Slot, Config}
 use Rattle.synod.proofs.Ghosts.{Offered, Proposed, Committed, Known}
 use Rattle.synod.proofs.Marks.{none-stands}
 use Rattle.synod.proofs.One.{Owns, Sound}

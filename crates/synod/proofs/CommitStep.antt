@@ -7,8 +7,9 @@ use mathlib.Core.List.{List·Memᴰ·head, List·Memᴰ·cases-cons}
 use mathlib.Core.Path.{_≡_, refl, sym, ap, subst}
 use mathlib.Core.Logic.{_⊎_, inl, inr}
 use Rattle.synod.specs.Changes.{committing}
-use Rattle.synod.specs.Rules.{Slot, Config, withRecord, updated}
-use Rattle.synod.specs.Slot.{Ghost, Tried, withCommit}
+use Rattle.synod.proofs.Machine.{withRecord}
+use Rattle.synod.proofs.Past.{Ghost, Tried, noteCommit}
+use Rattle.synod.specs.Slot.{Slot, Config, updated}
 use Rattle.ballot.proofs.Laws.{owned-positive}
 use Rattle.synod.proofs.Ghosts.{Proposed, Committed, Known, tried}
 use Rattle.synod.proofs.Grows.{Grows, with-commit, sound-more, fair-more, blocker-more}
@@ -24,7 +25,7 @@ use Rattle.synod.proofs.Clears.{cleared-change}
 
 -- a commit that binds joins the others
 committed-more : {c : Config} {g : Ghost} {σ : Slot} (b v : ℕ) → Invariant c g σ → Binding c g σ b v
-    → Invariant c (withCommit b v g) σ
+    → Invariant c (noteCommit b v g) σ
 committed-more {c} {g} {σ} b v inv new =
     record {
       each = λ p lt. sound-more more (inv .each p lt);
@@ -35,19 +36,19 @@ committed-more {c} {g} {σ} b v inv new =
       binding = λ e w cm. binding e w (List·Memᴰ·cases-cons cm);
     }
   where
-    more : Grows g (withCommit b v g)
+    more : Grows g (noteCommit b v g)
     more = with-commit g b v
 
-    rival : (p : ℕ) → Rival c g σ p (σ p) → Rival c (withCommit b v g) σ p (σ p)
+    rival : (p : ℕ) → Rival c g σ p (σ p) → Rival c (noteCommit b v g) σ p (σ p)
     rival p (inl u) = inl u
     rival p (inr x) = inr (blocker-more more x)
 
-    same : (e w : ℕ) → Binding c g σ e w → Binding c (withCommit b v g) σ e w
+    same : (e w : ℕ) → Binding c g σ e w → Binding c (noteCommit b v g) σ e w
     same e w x = record { owner = x .owner; proposed = x .proposed; only = x .only; own = x .own; blocks = x .blocks }
 
-    binding : (e w : ℕ) → (tried e w ≡ tried b v) ⊎ Committed g e w → Binding c (withCommit b v g) σ e w
+    binding : (e w : ℕ) → (tried e w ≡ tried b v) ⊎ Committed g e w → Binding c (noteCommit b v g) σ e w
     binding e w (inl eq) =
-        subst (λ (t : Tried). Binding c (withCommit b v g) σ (t .ballot) (t .command)) (sym eq) (same b v new)
+        subst (λ (t : Tried). Binding c (noteCommit b v g) σ (t .ballot) (t .command)) (sym eq) (same b v new)
     binding e w (inr cm) = same e w (inv .binding e w cm)
 
 module _ {c : Config} {g : Ghost} {σ : Slot} (inv : Invariant c g σ) (p : ℕ) (lp : p < c .servers) (two : σ p .own .phase ≡ 2) (full : Quorum (c .drives) (Complete c (σ p .own) p)) where
@@ -98,12 +99,12 @@ module _ {c : Config} {g : Ghost} {σ : Slot} (inv : Invariant c g σ) (p : ℕ)
       }
 
   -- 7 Finish, phase 2
-  pub commit-kept : Invariant c (withCommit (σ p .own .mbal) (σ p .own .inp) g) (updated σ p (withRecord (σ p) (committing (σ p .own))))
+  pub commit-kept : Invariant c (noteCommit (σ p .own .mbal) (σ p .own .inp) g) (updated σ p (withRecord (σ p) (committing (σ p .own))))
   unfolding committing
   commit-kept = frame now p lp _ change
     where
       h : Ghost
-      h = withCommit (σ p .own .mbal) (σ p .own .inp) g
+      h = noteCommit (σ p .own .mbal) (σ p .own .inp) g
 
       now : Invariant c h σ
       now = committed-more (σ p .own .mbal) (σ p .own .inp) inv binds

@@ -7,7 +7,8 @@ use mathlib.Core.Logic.{_⊎_, inl, inr}
 use lib.Dec.{eqb}
 use Rattle.quorum.specs.Sets.{majority}
 use Rattle.state.specs.declared.Server.{Server}
-use Rattle.synod.specs.Rules.{completeOn, othersRead, Config}
+use Rattle.synod.specs.Rules.{completeOn, othersRead}
+use Rattle.synod.specs.Slot.{Config}
 use Rattle.quorum.proofs.SetLaws.{all-at}
 use Rattle.lemmas.proofs.Tests.{and-left, and-right}
 use Rattle.synod.proofs.Logic.{or-either}

@@ -2,7 +2,7 @@
 use Prim.Native.Nat.{ℕ, _<_, _≤_}
 use mathlib.Core.Bool.{true}
 use mathlib.Core.Path.{_≡_}
-use Rattle.synod.specs.Rules.{Node, Config}
+use Rattle.synod.specs.Slot.{Node, Config}
 use Rattle.synod.proofs.Marks.{saw}
 
 -- p in phase 2 and another server q in phase 1 at a larger ballot

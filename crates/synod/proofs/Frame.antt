@@ -6,8 +6,8 @@ use mathlib.Core.Bool.{true}
 use mathlib.Core.Path.{_≡_, refl, sym, _∙_, ap, subst}
 use mathlib.Core.Logic.{_⊎_, inl, inr}
 use Rattle.state.specs.Server.{ownBlock}
-use Rattle.synod.specs.Rules.{Node, Slot, Config, updated}
-use Rattle.synod.specs.Slot.{Ghost}
+use Rattle.synod.proofs.Past.{Ghost}
+use Rattle.synod.specs.Slot.{Node, Slot, Config, updated}
 use Rattle.synod.proofs.Ghosts.{Proposed, Committed}
 use Rattle.synod.proofs.Marks.{saw}
 use Rattle.synod.proofs.Update.{everywhere}

@@ -4,7 +4,7 @@ use mathlib.Core.Bool.{Bool, true, false}
 use mathlib.Core.List.{List, [], _∷_, List·Memᴰ, List·Memᴰ·head, List·Memᴰ·tail, List·Memᴰ·cases-cons, List·Memᴰ·not-nil}
 use mathlib.Core.Path.{_≡_, refl, _∙_, ap}
 use mathlib.Core.Logic.{_⊎_, inl, inr}
-use Rattle.synod.specs.Slot.{Tried, Ghost}
+use Rattle.synod.proofs.Past.{Tried, Ghost}
 
 abbrev pub tried : ℕ → ℕ → Tried
 tried b v = record { ballot = b; command = v }

@@ -9,8 +9,8 @@ use Rattle.state.specs.declared.Answer.{Answer}
 use Rattle.state.specs.declared.Answer.the-variants as answer
 use Rattle.synod.specs.declared.Ruling.{Ruling}
 use Rattle.synod.specs.declared.Ruling.the-variants.{Refused, Accepted}
-use Rattle.synod.specs.Rules.{Node, Slot, Config}
-use Rattle.synod.specs.Slot.{Ghost, withOffer, withProposal, withCommit, heard, withDeed, ghostAfter, noted}
+use Rattle.synod.proofs.Past.{Ghost, noteOffer, noteProposal, noteCommit, heard, noteDeed, ghostAfter, noted}
+use Rattle.synod.specs.Slot.{Node, Slot, Config}
 use Rattle.synod.proofs.Ghosts.{Offered, Proposed, Committed, Known}
 use Rattle.synod.proofs.One.{Sound}
 use Rattle.synod.proofs.Proposals.{Fair}
@@ -24,13 +24,13 @@ pub record Grows (g h : Ghost) : Type 0 where
 same : (g : Ghost) → Grows g g
 same g = record { offered = λ v m. m; proposed = λ b v m. m; committed = λ b v m. m }
 
-pub with-offer : (g : Ghost) (w : ℕ) → Grows g (withOffer w g)
+pub with-offer : (g : Ghost) (w : ℕ) → Grows g (noteOffer w g)
 with-offer g w = record { offered = λ v m. List·Memᴰ·tail m; proposed = λ b v m. m; committed = λ b v m. m }
 
-pub with-proposal : (g : Ghost) (e w : ℕ) → Grows g (withProposal e w g)
+pub with-proposal : (g : Ghost) (e w : ℕ) → Grows g (noteProposal e w g)
 with-proposal g e w = record { offered = λ v m. m; proposed = λ b v m. List·Memᴰ·tail m; committed = λ b v m. m }
 
-pub with-commit : (g : Ghost) (e w : ℕ) → Grows g (withCommit e w g)
+pub with-commit : (g : Ghost) (e w : ℕ) → Grows g (noteCommit e w g)
 with-commit g e w = record { offered = λ v m. m; proposed = λ b v m. m; committed = λ b v m. List·Memᴰ·tail m }
 
 module _ {g h : Ghost} (more : Grows g h) where
@@ -81,7 +81,7 @@ heard-grows g mbal (answer.Chosen c) = with-proposal g mbal c
 heard-grows g mbal (answer.Committed c) = with-commit g mbal c
 heard-grows g mbal (answer.Refused n) = same g
 
-deed-grows : {g h : Ghost} (k : Deed) → Grows g h → Grows g (withDeed k h)
+deed-grows : {g h : Ghost} (k : Deed) → Grows g h → Grows g (noteDeed k h)
 deed-grows (Brings c) x =
     record { offered = λ w m. List·Memᴰ·tail (x .offered w m); proposed = x .proposed; committed = x .committed }
 deed-grows (Stores d) x = x

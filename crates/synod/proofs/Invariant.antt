@@ -4,8 +4,9 @@ use native.Mathlib.Omega.{arith}
 use mathlib.Core.List.{List·Memᴰ·not-nil}
 use mathlib.Core.Path.{_≡_, refl}
 use mathlib.Core.Logic.{inl}
-use Rattle.synod.specs.Rules.{Slot, Config}
-use Rattle.synod.specs.Slot.{Ghost, noGhost, blankSlot, blankNode}
+use Rattle.synod.proofs.Machine.{blankSlot, blankNode}
+use Rattle.synod.proofs.Past.{Ghost, noGhost}
+use Rattle.synod.specs.Slot.{Slot, Config}
 use Rattle.synod.proofs.Ghosts.{Proposed, Committed}
 use Rattle.synod.proofs.Marks.{none-stands}
 use Rattle.synod.proofs.One.{Owns, Sound}

@@ -13,8 +13,10 @@ use Rattle.state.specs.Server.{failed}
 use Rattle.synod.specs.declared.Ruling.{Ruling}
 use Rattle.synod.specs.declared.Ruling.the-variants.{Refused, Accepted}
 use Rattle.synod.specs.Arguments.{placesFit}
-use Rattle.synod.specs.Rules.{offerRule, recallRule, rejoinRule, bidRule, writeRule, readRule, finishRule, Slot, Config, configOf, ruled, after, offerSays, ruleOf}
-use Rattle.synod.specs.Slot.{Fits, Ghost, noted, heard}
+use Rattle.synod.proofs.Machine.{ruled, after, Fits}
+use Rattle.synod.proofs.Past.{Ghost, noted, heard}
+use Rattle.synod.specs.Rules.{ruling, offerRule, recallRule, rejoinRule, bidRule, writeRule, readRule, finishRule, ruleOf}
+use Rattle.synod.specs.Slot.{Slot, Config, configOf}
 use Rattle.synod.proofs.Places.{at-server, at-drive, at-other}
 use Rattle.synod.proofs.Rulings.{recall-cases, rejoin-cases, bid-cases, write-cases, read-cases, finish-cases}
 use Rattle.synod.proofs.Invariant.{Invariant}
@@ -38,43 +40,43 @@ module _ {c : Config} {g : Ghost} {σ : Slot} (inv : Invariant c g σ) where
   refused st n = inv
 
   module _ (p : ℕ) (lp : p < c .servers) (s : ℕ) where
-    offer-kept : (v : ℕ) → Keeps c g σ (Offer p s v) (offerRule (σ p .own) v)
-    unfolding noted after heard offerSays
+    offer-kept : (v : ℕ) → Keeps c g σ (Offer p s v) (ruling (offerRule (σ p .own) v))
+    unfolding noted after heard offerRule
     offer-kept v = let now = offered-more v inv in frame now p lp _ (offer-change now p lp v (List·Memᴰ·head refl))
 
-    recall-kept : (off d : ℕ) → Keeps c g σ (Recall p s d) (recallRule off (σ p .own) (σ p .disk d) p d)
+    recall-kept : (off d : ℕ) → Keeps c g σ (Recall p s d) (ruling (recallRule off (σ p .own) (σ p .disk d) p d))
     unfolding noted after heard
     recall-kept off d =
         recall-cases (Keeps c g σ (Recall p s d)) (refused (Recall p s d)) (σ p .own) off (σ p .disk d) p d
         (λ phase. frame inv p lp _ (recall-change inv p lp d phase))
 
-    rejoin-kept : (b : ℕ) → Keeps c g σ (Rejoin p s b) (rejoinRule (c .servers) (c .drives) (σ p .own) p b)
+    rejoin-kept : (b : ℕ) → Keeps c g σ (Rejoin p s b) (ruling (rejoinRule (c .servers) (c .drives) (σ p .own) p b))
     unfolding noted after heard
     rejoin-kept b =
         rejoin-cases (Keeps c g σ (Rejoin p s b)) (refused (Rejoin p s b)) (σ p .own) (c .servers) (c .drives) p b
         (λ mine phase most up. frame inv p lp _ (rejoin-change inv p lp b mine phase most up))
 
-    bid-kept : (b : ℕ) → Keeps c g σ (Bid p s b) (bidRule (c .servers) (σ p .own) p b)
+    bid-kept : (b : ℕ) → Keeps c g σ (Bid p s b) (ruling (bidRule (c .servers) (σ p .own) p b))
     unfolding noted after heard
     bid-kept b =
         bid-cases (Keeps c g σ (Bid p s b)) (refused (Bid p s b)) (σ p .own) (c .servers) p b
         (λ mine two up. frame inv p lp _ (bid-change inv p lp b mine (two .least) up))
 
-    write-kept : (off d : ℕ) → d < 32 → Keeps c g σ (Write p s d) (writeRule off (σ p .own) d)
+    write-kept : (off d : ℕ) → d < 32 → Keeps c g σ (Write p s d) (ruling (writeRule off (σ p .own) d))
     unfolding noted after heard
     write-kept off d ld =
         write-cases (Keeps c g σ (Write p s d)) (refused (Write p s d)) (σ p .own) off d
         (λ two. frame inv p lp _ (write-change inv p lp d ld (two .least) (two .most)))
 
     read-kept : Fits c → (off d q : ℕ) → q < c .servers
-        → Keeps c g σ (Read p s d q) (readRule (c .servers) off (σ p .own) (σ q .disk d) p d q)
+        → Keeps c g σ (Read p s d q) (ruling (readRule (c .servers) off (σ p .own) (σ q .disk d) p d q))
     unfolding noted after heard
     read-kept fits off d q lq =
         read-cases (Keeps c g σ (Read p s d q)) (refused (Read p s d q)) (σ p .own) (c .servers) off (σ q .disk d) p d q
         (λ two here low. frame inv p lp _ (read-change fits inv p lp d q lq (two .least) (two .most) here low))
         (λ b two mine up. frame inv p lp _ (bid-change inv p lp b mine (two .least) up))
 
-    finish-kept : Keeps c g σ (Finish p s) (finishRule (c .servers) (c .drives) (σ p .own) p)
+    finish-kept : Keeps c g σ (Finish p s) (ruling (finishRule (c .servers) (c .drives) (σ p .own) p))
     unfolding noted after heard
     finish-kept =
         finish-cases (Keeps c g σ (Finish p s)) (refused (Finish p s)) (σ p .own) (c .servers) (c .drives) p

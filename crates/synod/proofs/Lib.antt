@@ -1,5 +1,8 @@
 -- Why the servers of one slot agree: the invariant by parts, the steps that keep it, and what follows.
 
+-- one slot as a machine, and what its past tells
+pub mod Machine
+pub mod Past
 -- the ground: truth values, updated functions, sets of drives, the past, marks
 pub mod Logic
 pub mod Update

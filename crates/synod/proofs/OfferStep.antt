@@ -3,9 +3,10 @@ use Prim.Native.Nat.{ℕ, _<_}
 use native.Mathlib.Nat.{le-refl}
 use mathlib.Core.Path.{refl}
 use mathlib.Core.Logic.{inl, inr}
-use Rattle.synod.specs.Changes.{offering}
-use Rattle.synod.specs.Rules.{Slot, Config, withRecord}
-use Rattle.synod.specs.Slot.{Ghost, withOffer}
+use Rattle.state.specs.Server.{withOffer}
+use Rattle.synod.proofs.Machine.{withRecord}
+use Rattle.synod.proofs.Past.{Ghost, noteOffer}
+use Rattle.synod.specs.Slot.{Slot, Config}
 use Rattle.synod.proofs.Ghosts.{Offered}
 use Rattle.synod.proofs.One.{Sound}
 use Rattle.synod.proofs.Grows.{Grows, with-offer, sound-more, fair-more, blocker-more}
@@ -16,7 +17,7 @@ use Rattle.synod.proofs.Frame.{Change}
 use Rattle.synod.proofs.Advances.{Advance, advance-ahead, advance-held}
 
 -- a longer list of offers takes nothing away
-pub offered-more : {c : Config} {g : Ghost} {σ : Slot} (w : ℕ) → Invariant c g σ → Invariant c (withOffer w g) σ
+pub offered-more : {c : Config} {g : Ghost} {σ : Slot} (w : ℕ) → Invariant c g σ → Invariant c (noteOffer w g) σ
 offered-more {c} {g} {σ} w inv =
     record {
       each = λ p lt. sound-more more (inv .each p lt);
@@ -30,17 +31,16 @@ offered-more {c} {g} {σ} w inv =
           record { owner = x .owner; proposed = x .proposed; only = x .only; own = x .own; blocks = x .blocks };
     }
   where
-    more : Grows g (withOffer w g)
+    more : Grows g (noteOffer w g)
     more = with-offer g w
 
-    rival : (p : ℕ) → Rival c g σ p (σ p) → Rival c (withOffer w g) σ p (σ p)
+    rival : (p : ℕ) → Rival c g σ p (σ p) → Rival c (noteOffer w g) σ p (σ p)
     rival p (inl u) = inl u
     rival p (inr x) = inr (blocker-more more x)
 
 -- 1 Offer, of a command that was offered
 pub offer-change : {c : Config} {g : Ghost} {σ : Slot} → Invariant c g σ → (p : ℕ) → p < c .servers → (w : ℕ) → Offered g w
-    → Change c g σ p (withRecord (σ p) (offering (σ p .own) w))
-unfolding offering
+    → Change c g σ p (withRecord (σ p) (withOffer (σ p .own) w))
 offer-change {c} {g} {σ} inv p lp w mem =
     record {
       sound =
@@ -68,5 +68,5 @@ offer-change {c} {g} {σ} inv p lp w mem =
     s : Sound c g p (σ p)
     s = inv .each p lp
 
-    steady : Advance (σ p) (withRecord (σ p) (offering (σ p .own) w))
+    steady : Advance (σ p) (withRecord (σ p) (withOffer (σ p .own) w))
     steady = record { phase = λ h. h; mbal = λ h. le-refl _; bal = λ h. le-refl _; again = λ h. inl h }

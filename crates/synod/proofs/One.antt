@@ -5,8 +5,8 @@ use mathlib.Core.Path.{_≡_}
 use mathlib.Core.Logic.{_⊎_}
 use Rattle.ballot.specs.Ballot.{owned}
 use Rattle.state.specs.Server.{ownBlock}
-use Rattle.synod.specs.Rules.{Node, Config}
-use Rattle.synod.specs.Slot.{Ghost}
+use Rattle.synod.proofs.Past.{Ghost}
+use Rattle.synod.specs.Slot.{Node, Config}
 use Rattle.synod.proofs.Ghosts.{Offered, Committed, Known}
 use Rattle.synod.proofs.Marks.{wrote, saw}
 

@@ -15,9 +15,12 @@ use Rattle.state.specs.Server.{outputOf, offerOf}
 use Rattle.state.specs.View.{Brings, Stores, Alone, View, AtSlot, AtServer, AtDrive, viewOf}
 use Rattle.synod.specs.declared.Ruling.{Ruling}
 use Rattle.synod.specs.declared.Ruling.the-variants.{Refused, Accepted}
-use Rattle.synod.specs.Changes.{offering, marking, meeting, topping, recalling, rejoining, bidding, writing, reading, proposing, committing}
-use Rattle.synod.specs.Rules.{Node, Slot, Config, updated, ruled, after, offerSays, ruleOf, recallSays, rejoinSays, bidSays, writeSays, outbidSays, readSays, finishSays}
-use Rattle.synod.proofs.Rulings.{AllDo, all-do, recall-cases, rejoin-cases, bid-cases, write-cases, read-cases, finish-cases}
+use Rattle.synod.specs.Changes.{marking, meeting, topping, recalling, rejoining, bidding, writing, reading, proposing, committing}
+use Rattle.synod.proofs.Machine.{ruled, after}
+use Rattle.synod.specs.Rules.{offerRule, ruleOf, recallRule, rejoinRule, bidRule, writeRule, outbidRule, readRule, finishRule}
+use Rattle.synod.specs.Slot.{Node, Slot, Config, updated}
+use Rattle.checks.proofs.CheckLaws.{AllGive, all-give}
+use Rattle.synod.proofs.Rulings.{recall-cases, rejoin-cases, bid-cases, write-cases, read-cases, finish-cases}
 use Rattle.synod.proofs.Update.{everywhere, updated-at, updated-map}
 
 -- a committed answer is its server's output
@@ -79,7 +82,7 @@ TellsOffers σ st q r = offers (after σ st r) q ≡ offersAfter (offers σ) st 
 
 module _ (c : Config) (off : ℕ) (σ : Slot) (q : ℕ) where
   pub outputs-told : (st : Step) → TellsOutputs σ st q (ruled c off σ st)
-  unfolding ruleOf after outputsAfter told offerSays offering marking meeting topping recalling rejoining bidding writing reading proposing committing
+  unfolding ruleOf after outputsAfter told offerRule marking meeting topping recalling rejoining bidding writing reading proposing committing
   outputs-told (Offer p s v) = unchanged outputOf σ p _ refl q
   outputs-told (Recall p s d) =
       recall-cases (TellsOutputs σ (Recall p s d) q) (λ n. refl) (σ p .own) off (σ p .disk d) p d
@@ -105,8 +108,8 @@ module _ (c : Config) (off : ℕ) (σ : Slot) (q : ℕ) where
   outputs-told (DriveOn d) = refl
 
   -- where every end of the step's rule leaves the offers as its view tells
-  offer-ends : (st : Step) → AllDo (λ v a. TellsOffers σ st q (Accepted v a)) (ruleOf c off σ st)
-  unfolding ruleOf after offersAfter offerSays recallSays rejoinSays bidSays writeSays outbidSays readSays finishSays offering marking meeting topping recalling rejoining bidding writing reading proposing committing
+  offer-ends : (st : Step) → AllGive (TellsOffers σ st q) (ruleOf c off σ st)
+  unfolding ruleOf after offersAfter offerRule recallRule rejoinRule bidRule writeRule outbidRule readRule finishRule marking meeting topping recalling rejoining bidding writing reading proposing committing
   offer-ends (Offer p s v) = changed offerOf σ p _ q
   offer-ends (Recall p s d) = unchanged offerOf σ p _ refl q
   offer-ends (Rejoin p s b) = unchanged offerOf σ p _ refl q
@@ -120,7 +123,7 @@ module _ (c : Config) (off : ℕ) (σ : Slot) (q : ℕ) where
 
   pub offers-told : (st : Step) → TellsOffers σ st q (ruled c off σ st)
   unfolding after offersAfter
-  offers-told st = all-do (TellsOffers σ st q) (λ n. refl) (ruleOf c off σ st) (offer-ends st)
+  offers-told st = all-give Refused (TellsOffers σ st q) (λ n. refl) (ruleOf c off σ st) (offer-ends st)
 
 -- 0 for done to 3 for committed, as 01 counts answers; 4 for a refusal
 abbrev wordOf : Ruling → ℕ
@@ -159,7 +162,7 @@ module _ (c : Config) (off : ℕ) (σ : Slot) (x : ℕ) where
       }
 
   tells-commit : (st : Step) → TellsCommit σ st x (ruled c off σ st)
-  unfolding ruleOf offerSays
+  unfolding ruleOf offerRule
   tells-commit (Offer p s v) = λ e. absurd (omega arith)
   tells-commit (Recall p s d) =
       recall-cases (TellsCommit σ (Recall p s d) x) (λ n e. absurd (omega arith)) (σ p .own) off (σ p .disk d) p d

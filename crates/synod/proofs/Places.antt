@@ -10,7 +10,7 @@ use Rattle.state.specs.declared.Step.{Step}
 use Rattle.state.specs.declared.Step.the-variants.{Offer, Recall, Rejoin, Bid, Write, Read, Finish, Fail, DriveOff, DriveOn}
 use Rattle.state.specs.View as view
 use Rattle.state.specs.View.{View, viewOf}
-use Rattle.synod.specs.Arguments.{serverFits, driveFits, placesFit}
+use Rattle.synod.specs.Arguments.{inRoom, driveFits, placesFit}
 
 pub record AtServer (z : Sizes) (s p : ℕ) : Type 0 where
   pub slot : s < z .slots
@@ -40,27 +40,27 @@ Placed z (Fail p) = p < z .servers
 Placed z (DriveOff d) = d < z .drives
 Placed z (DriveOn d) = d < z .drives
 
-pub at-server : (z : Sizes) (p s : ℕ) → serverFits z p s ≡ true → AtServer z s p
+pub at-server : (z : Sizes) (p s : ℕ) → inRoom z p s ≡ true → AtServer z s p
 at-server z p s e =
     record {
       slot = ltb-true s (z .slots) (and-right (ltb p (z .servers)) (ltb s (z .slots)) e);
       server = ltb-true p (z .servers) (and-left (ltb p (z .servers)) (ltb s (z .slots)) e);
     }
 
-pub at-drive : (z : Sizes) (p s d : ℕ) → (serverFits z p s && driveFits z d) ≡ true → AtDrive z s p d
+pub at-drive : (z : Sizes) (p s d : ℕ) → (inRoom z p s && driveFits z d) ≡ true → AtDrive z s p d
 at-drive z p s d e =
-    let a = at-server z p s (and-left (serverFits z p s) (driveFits z d) e) in
+    let a = at-server z p s (and-left (inRoom z p s) (driveFits z d) e) in
     record {
       slot = a .slot;
       server = a .server;
-      drive = ltb-true d (z .drives) (and-right (serverFits z p s) (driveFits z d) e);
+      drive = ltb-true d (z .drives) (and-right (inRoom z p s) (driveFits z d) e);
     }
 
 pub at-other
-    : (z : Sizes) (p s d q : ℕ) → (serverFits z p s && driveFits z d && ltb q (z .servers) && not (eqb q p)) ≡ true
+    : (z : Sizes) (p s d q : ℕ) → (inRoom z p s && driveFits z d && ltb q (z .servers) && not (eqb q p)) ≡ true
     → AtOther z s p d q
 at-other z p s d q e =
-    let two = serverFits z p s && driveFits z d in
+    let two = inRoom z p s && driveFits z d in
     let three = and-left (two && ltb q (z .servers)) (not (eqb q p)) e in
     let a = at-drive z p s d (and-left two (ltb q (z .servers)) three) in
     record {

@@ -2,8 +2,8 @@
 -- in its record and on a quorum of drives.
 use Prim.Native.Nat.{ℕ, _<_, _≤_}
 use mathlib.Core.Path.{_≡_}
-use Rattle.synod.specs.Rules.{Node, Config}
-use Rattle.synod.specs.Slot.{Ghost}
+use Rattle.synod.proofs.Past.{Ghost}
+use Rattle.synod.specs.Slot.{Node, Config}
 use Rattle.synod.proofs.One.{Owns}
 use Rattle.synod.proofs.Ghosts.{Offered}
 use Rattle.synod.proofs.Quorums.{Quorum}

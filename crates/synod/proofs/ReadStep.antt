@@ -6,8 +6,9 @@ use mathlib.Core.Bool.{true}
 use mathlib.Core.Path.{_≡_, refl, sym, subst, subst₂}
 use mathlib.Core.Logic.{_⊎_, inl, inr}
 use Rattle.synod.specs.Changes.{readBit, meeting, marking, reading}
-use Rattle.synod.specs.Rules.{Node, Slot, Config, withRecord}
-use Rattle.synod.specs.Slot.{Fits, Ghost}
+use Rattle.synod.proofs.Machine.{withRecord, Fits}
+use Rattle.synod.proofs.Past.{Ghost}
+use Rattle.synod.specs.Slot.{Node, Slot, Config}
 use Rattle.synod.proofs.Marks.{wrote, saw, marked-or, same-bit}
 use Rattle.synod.proofs.Meetings.{Met, meets}
 use Rattle.synod.proofs.One.{Sound}

@@ -8,8 +8,10 @@ use mathlib.Core.Logic.{_⊎_, inl, inr}
 use Rattle.quorum.specs.Sets.{majority}
 use Rattle.state.specs.declared.Server.{Server}
 use Rattle.synod.specs.Changes.{readBit, meeting, marking, topping, recalling, rejoining}
-use Rattle.synod.specs.Rules.{recalledOn, Node, Slot, Config, withRecord}
-use Rattle.synod.specs.Slot.{Ghost}
+use Rattle.synod.proofs.Machine.{withRecord}
+use Rattle.synod.proofs.Past.{Ghost}
+use Rattle.synod.specs.Rules.{recalledOn}
+use Rattle.synod.specs.Slot.{Node, Slot, Config}
 use Rattle.synod.proofs.Ghosts.{Proposed, Committed}
 use Rattle.synod.proofs.Marks.{saw, marked-or}
 use Rattle.synod.proofs.Quorums.{Quorum, meet}

@@ -4,8 +4,8 @@ use Prim.Native.Nat.{ℕ, _<_, _≤_}
 use mathlib.Core.Bool.{true}
 use mathlib.Core.Path.{_≡_}
 use mathlib.Core.Logic.{_⊎_}
-use Rattle.synod.specs.Rules.{Node, Slot, Config}
-use Rattle.synod.specs.Slot.{Ghost}
+use Rattle.synod.proofs.Past.{Ghost}
+use Rattle.synod.specs.Slot.{Node, Slot, Config}
 use Rattle.synod.proofs.Ghosts.{Proposed}
 use Rattle.synod.proofs.Marks.{saw}
 use Rattle.synod.proofs.Proposals.{Owner}

@@ -2,7 +2,7 @@
 use Prim.Native.Nat.{ℕ, _<_, _≤_}
 use native.Mathlib.Omega.{arith}
 use borrow.Author.Tests.{eqb-true, eqb-false, ltb-true, ltb-false, not-true}
-use mathlib.Core.Bool.{Bool, true, false, cond}
+use mathlib.Core.Bool.{true}
 use mathlib.Core.Path.{_≡_, refl}
 use mathlib.Core.Logic.{_⊎_, inl, inr}
 use lib.Dec.{eqb}
@@ -23,7 +23,11 @@ use Rattle.state.specs.View.{Brings, Stores, Alone, View, AtSlot, AtServer, AtD
 use Rattle.synod.specs.declared.Ruling.{Ruling}
 use Rattle.synod.specs.declared.Ruling.the-variants.{Refused, Accepted}
 use Rattle.synod.specs.Changes.{recalling, rejoining, bidding, writing, reading, proposing, committing}
-use Rattle.synod.specs.Rules.{must, balloting, recalledOn, completeOn, commandOf, recallRule, rejoinRule, bidRule, writeRule, outbidRule, readRule, finishRule, Rule, Must, Either, Does, ruling, Slot, Config, ruled, bidSays, finishSays, outbidSays, readSays, recallSays, rejoinSays, ruleOf, writeSays}
+use Rattle.checks.specs.Checks.{must}
+use Rattle.checks.proofs.CheckLaws.{must-cases, either-cases}
+use Rattle.synod.proofs.Machine.{ruled}
+use Rattle.synod.specs.Rules.{balloting, recalledOn, completeOn, commandOf, recallRule, rejoinRule, bidRule, writeRule, outbidRule, readRule, finishRule, ruling, ruleOf}
+use Rattle.synod.specs.Slot.{Slot, Config}
 use Rattle.synod.proofs.Logic.{or-either}
 
 -- phase 1 or 2, by number
@@ -39,69 +43,60 @@ ballots v h = by-case (or-either (eqb (v .phase) 1) (eqb (v .phase) 2) h)
     by-case (inr e) = let h = eqb-true (v .phase) 2 e in record { least = omega arith; most = omega arith }
 
 module _ (P : Ruling → Type 0) where
-  must-cases : (b : Bool) (n : ℕ) (rest : Ruling) → P (Refused n) → (b ≡ true → P rest) → P (must b n rest)
-  unfolding must
-  must-cases true n rest stop way = way refl
-  must-cases false n rest stop way = stop
-
-  pick-cases : (b : Bool) (x y : Ruling) → (b ≡ true → P x) → (b ≡ false → P y) → P (cond b x y)
-  pick-cases true x y left right = left refl
-  pick-cases false x y left right = right refl
-
   outbid-cases : (v : Server) (found : ℕ) (next : Next) → P (Refused 13)
-      → ((b : ℕ) → next ≡ Ballot b → P (Accepted (bidding v b) (Outbid found))) → P (outbidRule v found next)
-  unfolding outbidSays must
+      → ((b : ℕ) → next ≡ Ballot b → P (Accepted (bidding v b) (Outbid found))) → P (ruling (outbidRule v found next))
+  unfolding outbidRule must
   outbid-cases v found (Ballot b) stop way = way b refl
   outbid-cases v found Spent stop way = stop
 
   module _ (stop : (n : ℕ) → P (Refused n)) (v : Server) where
     pub recall-cases : (off : ℕ) (b : Block) (p d : ℕ) → (v .phase ≡ 0 → P (Accepted (recalling v b p d) Done))
-        → P (recallRule off v b p d)
-    unfolding recallSays
+        → P (ruling (recallRule off v b p d))
+    unfolding recallRule
     recall-cases off b p d way =
-        must-cases _ _ _ (stop _) (λ phase.
-        must-cases _ _ _ (stop _) (λ on.
+        must-cases Refused P _ _ _ (stop _) (λ phase.
+        must-cases Refused P _ _ _ (stop _) (λ on.
         way (eqb-true (v .phase) 0 phase)))
 
     pub rejoin-cases : (servers drives p b : ℕ)
         → (owned servers p b ≡ true → v .phase ≡ 0 → majority drives (recalledOn v p) ≡ true → v .top < b
         → P (Accepted (rejoining v b) Done))
-        → P (rejoinRule servers drives v p b)
-    unfolding rejoinSays
+        → P (ruling (rejoinRule servers drives v p b))
+    unfolding rejoinRule
     rejoin-cases servers drives p b way =
-        must-cases _ _ _ (stop _) (λ mine.
-        must-cases _ _ _ (stop _) (λ phase.
-        must-cases _ _ _ (stop _) (λ most.
-        must-cases _ _ _ (stop _) (λ up.
+        must-cases Refused P _ _ _ (stop _) (λ mine.
+        must-cases Refused P _ _ _ (stop _) (λ phase.
+        must-cases Refused P _ _ _ (stop _) (λ most.
+        must-cases Refused P _ _ _ (stop _) (λ up.
         way mine (eqb-true (v .phase) 0 phase) most (omega (arith, ltb-true))))))
 
     pub bid-cases : (servers p b : ℕ)
         → (owned servers p b ≡ true → Balloting v → v .mbal < b → P (Accepted (bidding v b) Done))
-        → P (bidRule servers v p b)
-    unfolding bidSays
+        → P (ruling (bidRule servers v p b))
+    unfolding bidRule
     bid-cases servers p b way =
-        must-cases _ _ _ (stop _) (λ mine.
-        must-cases _ _ _ (stop _) (λ phase.
-        must-cases _ _ _ (stop _) (λ up.
+        must-cases Refused P _ _ _ (stop _) (λ mine.
+        must-cases Refused P _ _ _ (stop _) (λ phase.
+        must-cases Refused P _ _ _ (stop _) (λ up.
         way mine (ballots v phase) (omega (arith, ltb-true)))))
 
-    pub write-cases : (off d : ℕ) → (Balloting v → P (Accepted (writing v d) Done)) → P (writeRule off v d)
-    unfolding writeSays
+    pub write-cases : (off d : ℕ) → (Balloting v → P (Accepted (writing v d) Done)) → P (ruling (writeRule off v d))
+    unfolding writeRule
     write-cases off d way =
-        must-cases _ _ _ (stop _) (λ phase.
-        must-cases _ _ _ (stop _) (λ on.
+        must-cases Refused P _ _ _ (stop _) (λ phase.
+        must-cases Refused P _ _ _ (stop _) (λ on.
         way (ballots v phase)))
 
     pub read-cases : (servers off : ℕ) (b : Block) (p d q : ℕ)
         → (Balloting v → stands (v .written) d ≡ true → b .mbal < v .mbal → P (Accepted (reading v b d q) Done))
         → ((next : ℕ) → Balloting v → owned servers p next ≡ true → v .mbal < next → P (Accepted (bidding v next) (Outbid (b .mbal))))
-        → P (readRule servers off v b p d q)
-    unfolding readSays
+        → P (ruling (readRule servers off v b p d q))
+    unfolding readRule
     read-cases servers off b p d q way outbid =
-        must-cases _ _ _ (stop _) (λ phase.
-        must-cases _ _ _ (stop _) (λ on.
-        must-cases _ _ _ (stop _) (λ here.
-        pick-cases _ _ _
+        must-cases Refused P _ _ _ (stop _) (λ phase.
+        must-cases Refused P _ _ _ (stop _) (λ on.
+        must-cases Refused P _ _ _ (stop _) (λ here.
+        either-cases P _ _ _
         (λ low. way (ballots v phase) here (ltb-true (b .mbal) (v .mbal) low))
         (λ high.
         outbid-cases v (b .mbal) (nextOwn servers p (b .mbal)) (stop 13) (λ next e.
@@ -113,33 +108,19 @@ module _ (P : Ruling → Type 0) where
         → (v .phase ≡ 1 → majority drives (completeOn servers v p) ≡ true → (commandOf v ≡ 0 → ⊥)
         → P (Accepted (proposing v (commandOf v)) (Chosen (commandOf v))))
         → (v .phase ≡ 2 → majority drives (completeOn servers v p) ≡ true → P (Accepted (committing v) (Committed (v .inp))))
-        → P (finishRule servers drives v p)
-    unfolding finishSays
+        → P (ruling (finishRule servers drives v p))
+    unfolding finishRule
     finish-cases servers drives p choose commit =
-        must-cases _ _ _ (stop _) (λ phase.
-        must-cases _ _ _ (stop _) (λ most.
-        pick-cases _ _ _
+        must-cases Refused P _ _ _ (stop _) (λ phase.
+        must-cases Refused P _ _ _ (stop _) (λ most.
+        either-cases P _ _ _
         (λ one.
-        must-cases _ _ _ (stop _) (λ some.
+        must-cases Refused P _ _ _ (stop _) (λ some.
         choose (eqb-true (v .phase) 1 one) most (eqb-false (commandOf v) 0 (not-true (eqb (commandOf v) 0) some))))
         (λ other.
         let two = ballots v phase in
         let not-one = eqb-false (v .phase) 1 other in
         commit (omega (arith, two .least, two .most)) most)))
-
--- P holds of every end of a rule, whatever its conditions
-abbrev pub AllDo : (Server → Answer → Type 0) → Rule → Type 0
-AllDo P (Must b n r) = AllDo P r
-AllDo P (Either t x y) = AllDo P x × AllDo P y
-AllDo P (Does v a) = P v a
-
-pub all-do : (P : Ruling → Type 0) → ((n : ℕ) → P (Refused n)) → (r : Rule) → AllDo (λ v a. P (Accepted v a)) r → P (ruling r)
-unfolding must
-all-do P stop (Must true n r) h = all-do P stop r h
-all-do P stop (Must false n r) h = stop n
-all-do P stop (Either true x y) h = all-do P stop x (h .0)
-all-do P stop (Either false x y) h = all-do P stop y (h .1)
-all-do P stop (Does v a) h = h
 
 -- done, or refused
 abbrev pub Quiet : Ruling → Type 0

@@ -4,7 +4,7 @@ use mathlib.Core.Bool.{Bool, true, false, cond}
 use mathlib.Core.Path.{_≡_, refl, sym, ap, subst}
 use lib.Dec.{eqb}
 use borrow.Author.Tests.{eqb-true, eqb-false, eq-eqb, ne-eqb}
-use Rattle.synod.specs.Rules.{updated}
+use Rattle.synod.specs.Slot.{updated}
 
 pub updated-at : {A : Type 0} (f : ℕ → A) (i : ℕ) (a : A) → updated f i a i ≡ a
 unfolding updated

@@ -7,8 +7,9 @@ use mathlib.Core.Path.{_≡_, refl}
 use mathlib.Core.Logic.{_⊎_, inl, inr}
 use Rattle.state.specs.Server.{ownBlock}
 use Rattle.synod.specs.Changes.{writing}
-use Rattle.synod.specs.Rules.{Slot, Config, withBlock, updated}
-use Rattle.synod.specs.Slot.{Ghost}
+use Rattle.synod.proofs.Machine.{withBlock}
+use Rattle.synod.proofs.Past.{Ghost}
+use Rattle.synod.specs.Slot.{Slot, Config, updated}
 use Rattle.synod.proofs.Ghosts.{Known}
 use Rattle.synod.proofs.Marks.{wrote, marked-or, marked-still}
 use Rattle.synod.proofs.Update.{everywhere}

@@ -1,5 +1,5 @@
--- Refusal 4 (01, "Who can bring which number"): server, slot, drive or other beyond the room, or other = server.
--- Refusal 5: not a command.
+-- What a step needs of its numbers (SPEC, "Who can bring which number"): its places are in the room, or it is refused with
+-- 4; what it brings is a command, or it is refused with 5.
 use Prim.Native.Nat.{ℕ}
 use mathlib.Core.Bool.{Bool, true, not, _&&_}
 use mathlib.Core.List.{List}
@@ -10,21 +10,22 @@ use Rattle.state.specs.declared.Step.{Step}
 use Rattle.state.specs.declared.Step.the-variants.{Offer, Recall, Rejoin, Bid, Write, Read, Finish, Fail, DriveOff, DriveOn}
 use Rattle.state.specs.View.{Brings, Stores, Alone, View, AtSlot, AtServer, AtDrive, viewOf}
 
-abbrev pub serverFits : Sizes → ℕ → ℕ → Bool
-serverFits z p s = ltb p (z .servers) && ltb s (z .slots)
+-- server p and slot s are in the room
+abbrev pub inRoom : Sizes → ℕ → ℕ → Bool
+inRoom z p s = ltb p (z .servers) && ltb s (z .slots)
 
 abbrev pub driveFits : Sizes → ℕ → Bool
 driveFits z d = ltb d (z .drives)
 
 -- every place that the step names is in the room
 unfoldable pub placesFit : Sizes → Step → Bool
-placesFit z (Offer p s v) = serverFits z p s
-placesFit z (Recall p s d) = serverFits z p s && driveFits z d
-placesFit z (Rejoin p s b) = serverFits z p s
-placesFit z (Bid p s b) = serverFits z p s
-placesFit z (Write p s d) = serverFits z p s && driveFits z d
-placesFit z (Read p s d q) = serverFits z p s && driveFits z d && ltb q (z .servers) && not (eqb q p)
-placesFit z (Finish p s) = serverFits z p s
+placesFit z (Offer p s v) = inRoom z p s
+placesFit z (Recall p s d) = inRoom z p s && driveFits z d
+placesFit z (Rejoin p s b) = inRoom z p s
+placesFit z (Bid p s b) = inRoom z p s
+placesFit z (Write p s d) = inRoom z p s && driveFits z d
+placesFit z (Read p s d q) = inRoom z p s && driveFits z d && ltb q (z .servers) && not (eqb q p)
+placesFit z (Finish p s) = inRoom z p s
 placesFit z (Fail p) = ltb p (z .servers)
 placesFit z (DriveOff d) = driveFits z d
 placesFit z (DriveOn d) = driveFits z d

@@ -1,85 +1,37 @@
--- What an accepted step makes of a server's record (01, "The ten steps").
+-- What an accepted step makes of a server's record (SPEC, "The ten steps").
 use mathlib.Core.Bool.{cond}
 use Prim.Native.Nat.{ℕ, _+_, _*_, max}
 use lib.Dec.{ltb}
 use Rattle.quorum.specs.Marks.{marked}
 use Rattle.state.specs.declared.Block.{Block}
 use Rattle.state.specs.declared.Server.{Server}
-use Rattle.state.specs.Server.{withOwn, cleared, ownBlock}
+use Rattle.state.specs.Server.{withOwn, withNotes, cleared, ownBlock}
 
 -- the bit of server q's block on drive d in the read marks
 abbrev pub readBit : ℕ → ℕ → ℕ
 readBit d q = 4 * d + q
 
--- 1 Offer: the offer becomes the command
-unfoldable pub offering : Server → ℕ → Server
-offering v command =
-    record {
-      phase = v .phase;
-      mbal = v .mbal;
-      bal = v .bal;
-      inp = v .inp;
-      offer = command;
-      top = v .top;
-      seenbal = v .seenbal;
-      seeninp = v .seeninp;
-      written = v .written;
-      read = v .read;
-    }
-
 -- the block b, met in this phase: a larger bal replaces seenbal and seeninp
 unfoldable pub meeting : Server → Block → Server
 meeting v b =
-    record {
-      phase = v .phase;
-      mbal = v .mbal;
-      bal = v .bal;
-      inp = v .inp;
-      offer = v .offer;
-      top = v .top;
-      seenbal = cond (ltb (v .seenbal) (b .bal)) (b .bal) (v .seenbal);
-      seeninp = cond (ltb (v .seenbal) (b .bal)) (b .inp) (v .seeninp);
-      written = v .written;
-      read = v .read;
-    }
+    withNotes v (v .top)
+    (cond (ltb (v .seenbal) (b .bal)) (b .bal) (v .seenbal))
+    (cond (ltb (v .seenbal) (b .bal)) (b .inp) (v .seeninp))
+    (v .written) (v .read)
 
 -- server q's block on drive d was read in this phase
 unfoldable pub marking : Server → ℕ → ℕ → Server
-marking v d q =
-    record {
-      phase = v .phase;
-      mbal = v .mbal;
-      bal = v .bal;
-      inp = v .inp;
-      offer = v .offer;
-      top = v .top;
-      seenbal = v .seenbal;
-      seeninp = v .seeninp;
-      written = v .written;
-      read = marked (v .read) (readBit d q);
-    }
+marking v d q = withNotes v (v .top) (v .seenbal) (v .seeninp) (v .written) (marked (v .read) (readBit d q))
 
 -- top becomes the larger of itself and the mbal
 unfoldable pub topping : Server → ℕ → Server
-topping v mbal =
-    record {
-      phase = v .phase;
-      mbal = v .mbal;
-      bal = v .bal;
-      inp = v .inp;
-      offer = v .offer;
-      top = max (v .top) mbal;
-      seenbal = v .seenbal;
-      seeninp = v .seeninp;
-      written = v .written;
-      read = v .read;
-    }
+topping v mbal = withNotes v (max (v .top) mbal) (v .seenbal) (v .seeninp) (v .written) (v .read)
 
 -- 2 Recall: server p's own block b on drive d is read
 unfoldable pub recalling : Server → Block → ℕ → ℕ → Server
 recalling v b p d = meeting (topping (marking v d p) (b .mbal)) b
 
--- 3 Rejoin: the own block becomes (ballot, seenbal, seeninp); phase 1; clear
+-- 3 Rejoin: the own block becomes the ballot with the best bal and inp recalled; phase 1; clear
 unfoldable pub rejoining : Server → ℕ → Server
 rejoining v ballot = cleared (withOwn v 1 (record { mbal = ballot; bal = v .seenbal; inp = v .seeninp }))
 
@@ -87,23 +39,11 @@ rejoining v ballot = cleared (withOwn v 1 (record { mbal = ballot; bal = v .seen
 unfoldable pub bidding : Server → ℕ → Server
 bidding v ballot = cleared (withOwn v 1 (record { mbal = ballot; bal = v .bal; inp = v .inp }))
 
--- 5 Write: bit d of written set
+-- 5 Write: the drive is marked as written
 unfoldable pub writing : Server → ℕ → Server
-writing v d =
-    record {
-      phase = v .phase;
-      mbal = v .mbal;
-      bal = v .bal;
-      inp = v .inp;
-      offer = v .offer;
-      top = v .top;
-      seenbal = v .seenbal;
-      seeninp = v .seeninp;
-      written = marked (v .written) d;
-      read = v .read;
-    }
+writing v d = withNotes v (v .top) (v .seenbal) (v .seeninp) (marked (v .written) d) (v .read)
 
--- 6 Read, not outbid: bit 4d + q set, and a larger bal replaces seenbal and seeninp
+-- 6 Read, not outbid: the block is marked as read and met
 unfoldable pub reading : Server → Block → ℕ → ℕ → Server
 reading v b d q = meeting (marking v d q) b
 

@@ -1,5 +1,9 @@
--- The algorithm on values: what a step needs of its numbers, and one rule for each kind that touches a record.
+-- The algorithm on values.
+-- what a step needs of its numbers
 pub mod Arguments
+-- what becomes of a record
 pub mod Changes
-pub mod Rules
+-- one slot
 pub mod Slot
+-- the ten rules
+pub mod Rules

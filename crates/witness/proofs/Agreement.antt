@@ -6,7 +6,7 @@ use lib.Dec.{eqb}
 use Rattle.lemmas.proofs.Tests.{by-test}
 use Rattle.state.specs.declared.Sizes.{Sizes}
 use Rattle.state.specs.declared.Step.{Step}
-use Rattle.synod.specs.Rules.{updated}
+use Rattle.synod.specs.Slot.{updated}
 use Rattle.room.specs.Step.{answered, stepped}
 use Rattle.history.specs.Run.{Move, Offers, Chooses, Fails, Rests, moveOf, Always}
 use Rattle.history.specs.Machine.{Machine, atFirst, withOutput, withoutServer, Choose, Makes, Equal, Follows, ends, goes}

@@ -6,9 +6,10 @@ use Rattle.ballot.specs.Ballot.{owned, leastAbove, nextOwn}
 use Rattle.quorum.specs.Marks.{stands, marked}
 use Rattle.quorum.specs.Sets.{allBelow, size, gathered, majority, within}
 use Rattle.synod.specs.Arguments.{placesFit, commandFits}
-use Rattle.synod.specs.Changes.{offering, meeting, marking, topping, recalling, rejoining, bidding, writing, reading, proposing, committing}
+use Rattle.synod.specs.Changes.{meeting, marking, topping, recalling, rejoining, bidding, writing, reading, proposing, committing}
 use Rattle.synod.specs.Rules as machine
-use Rattle.synod.specs.Rules.{must, finishSays, offerSays, outbidSays, readSays, recallSays, rejoinSays, writeSays}
+use Rattle.checks.specs.Checks.{must}
+use Rattle.synod.specs.Rules.{finishRule, offerRule, outbidRule, readRule, recallRule, rejoinRule, writeRule}
 use Rattle.layout.specs.Places.{slotLength, roomLength, slotAt, serverAt, nthBlockAt, blockAt, sizesFit}
 use Rattle.layout.specs.Cells.{serverOf, putServer, blockOf, putBlock}
 use Rattle.range.specs.Range.{legalDrives, legalReads, valueFits, numbersFit, serverFits, blockFits, serversFit, blocksFit, slotFits, cellsFit, inRange}
@@ -32,8 +33,8 @@ computed : Computed survivor × Computed rivals × Computed gap
 unfolding survivor rivals gap newRoom sameAnswer follows stepsOf ran onesIn ones
     limitOf hoardFits isCommand owned leastAbove nextOwn stands marked allBelow size gathered majority within
     placesFit commandFits
-    offering meeting marking topping recalling rejoining bidding writing reading proposing committing
-    must offerSays recallSays rejoinSays writeSays outbidSays readSays finishSays
+    meeting marking topping recalling rejoining bidding writing reading proposing committing
+    must offerRule recallRule rejoinRule writeRule outbidRule readRule finishRule
     slotLength roomLength slotAt serverAt nthBlockAt blockAt sizesFit serverOf putServer blockOf putBlock
     legalDrives legalReads valueFits numbersFit serverFits blockFits serversFit blocksFit slotFits cellsFit inRange
     openedCells opening opened check ruled machine.ruleOf judged failedBelow settled answered stepped

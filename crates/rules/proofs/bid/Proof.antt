@@ -4,13 +4,14 @@ use Rattle.rules.proofs.bid.Statement.{statement}
 use Rattle.rules.proofs.bid.Tie as tie
 use mathlib.Core.Path.{_∙_, sym}
 use borrow.Author.Tests.{lt-ltb, le-ltb, not-true, not-false}
-use Rattle.synod.specs.Rules.{must, bidSays}
+use Rattle.checks.specs.Checks.{must}
+use Rattle.synod.specs.Rules.{bidRule}
 
 is-own-requires : tie.Need-is-own-requires
 is-own-requires c κs = search needs
 
 returns : tie.Need-returns
-unfolding must bidSays
+unfolding must bidRule
 returns c =
     let at-is-own = c .before .is-own in
     let at-if1 = c .if1 in
@@ -20,7 +21,7 @@ in-ballot-requires : tie.Need-in-ballot-requires
 in-ballot-requires c κs = search needs
 
 returns-2 : tie.Need-returns-2
-unfolding must bidSays
+unfolding must bidRule
 returns-2 c =
     let at-is-own = c .before .before .before .is-own in
     let at-if1 = c .before .before .if1 in
@@ -29,7 +30,7 @@ returns-2 c =
     simp (sym (at-is-own .ensures) ∙ not-false _ (at-if1 .left), sym (at-in-ballot .ensures) ∙ not-true _ (at-if2 .taken))
 
 returns-3 : tie.Need-returns-3
-unfolding must bidSays
+unfolding must bidRule
 returns-3 c =
     let at-is-own = c .before .before .before .before .before .is-own in
     let at-if1 = c .before .before .before .before .if1 in
@@ -42,7 +43,7 @@ restart-requires : tie.Need-restart-requires
 restart-requires c κs = search needs
 
 returns-4 : tie.Need-returns-4
-unfolding must bidSays
+unfolding must bidRule
 returns-4 c =
     let at-is-own = c .before .before .before .before .before .before .is-own in
     let at-if1 = c .before .before .before .before .before .if1 in

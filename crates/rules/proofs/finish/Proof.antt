@@ -6,13 +6,14 @@ use mathlib.Core.Path.{_∙_, sym}
 use borrow.Author.Tests.{eq-eqb, ne-eqb, not-true, not-false}
 use Rattle.rules.proofs.Judged.{judged}
 use Rattle.synod.specs.Changes.{proposing, committing}
-use Rattle.synod.specs.Rules.{must, completeOn, finishSays}
+use Rattle.checks.specs.Checks.{must}
+use Rattle.synod.specs.Rules.{completeOn, finishRule}
 
 in-ballot-requires : tie.Need-in-ballot-requires
 in-ballot-requires c κs = search needs
 
 returns : tie.Need-returns
-unfolding must finishSays
+unfolding must finishRule
 returns c =
     let at-in-ballot = c .before .in-ballot in
     let at-if1 = c .if1 in
@@ -25,7 +26,7 @@ is-majority-requires : tie.Need-is-majority-requires
 is-majority-requires c κs = search needs
 
 returns-2 : tie.Need-returns-2
-unfolding must finishSays
+unfolding must finishRule
 returns-2 c =
     let at-args = c .before .before .before .before .before .args in
     let at-complete = c .before .before .complete in
@@ -40,7 +41,7 @@ command-of-requires : tie.Need-command-of-requires
 command-of-requires c κs = search needs
 
 returns-3 : tie.Need-returns-3
-unfolding must finishSays
+unfolding must finishRule
 returns-3 c =
     let at-args = c .before .before .before .before .before .before .before .before .before .args in
     let at-complete = c .before .before .before .before .before .before .complete in
@@ -61,7 +62,7 @@ cleared-requires : tie.Need-cleared-requires
 cleared-requires c κs = search needs
 
 returns-4 : tie.Need-returns-4
-unfolding must finishSays proposing
+unfolding must finishRule proposing
 returns-4 c =
     let at-args = c .before .before .before .before .before .before .before .before .before .before .before .args in
     let at-complete = c .before .before .before .before .before .before .before .before .complete in
@@ -87,7 +88,7 @@ cleared-requires-2 : tie.Need-cleared-requires-2
 cleared-requires-2 c κs = search needs
 
 returns-5 : tie.Need-returns-5
-unfolding must finishSays committing
+unfolding must finishRule committing
 returns-5 c =
     let at-args = c .before .before .before .before .before .before .before .before .before .before .args in
     let at-complete = c .before .before .before .before .before .before .before .complete in

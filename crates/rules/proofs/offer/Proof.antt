@@ -2,11 +2,10 @@
 use Rattle.rules.proofs.offer.Statement.{statement}
 use Rattle.rules.proofs.offer.Tie as tie
 use mathlib.Core.Path.{refl}
-use Rattle.synod.specs.Changes.{offering}
-use Rattle.synod.specs.Rules.{offerSays}
+use Rattle.synod.specs.Rules.{offerRule}
 
 returns : tie.Need-returns
-unfolding offerSays offering
+unfolding offerRule
 returns c = refl
 
 pub offer-spec : {M : Type 1} → statement M

@@ -5,13 +5,14 @@ use Rattle.rules.proofs.read.Tie as tie
 use mathlib.Core.Path.{_∙_, sym}
 use borrow.Author.Tests.{lt-ltb, le-ltb, not-true, not-false}
 use Rattle.synod.specs.Changes.{reading, marking}
-use Rattle.synod.specs.Rules.{must, readSays}
+use Rattle.checks.specs.Checks.{must}
+use Rattle.synod.specs.Rules.{readRule}
 
 in-ballot-requires : tie.Need-in-ballot-requires
 in-ballot-requires c κs = search needs
 
 returns : tie.Need-returns
-unfolding must readSays
+unfolding must readRule
 returns c =
     let at-in-ballot = c .before .in-ballot in
     let at-if1 = c .if1 in
@@ -21,7 +22,7 @@ has-mark-requires : tie.Need-has-mark-requires
 has-mark-requires c κs = search needs
 
 returns-2 : tie.Need-returns-2
-unfolding must readSays
+unfolding must readRule
 returns-2 c =
     let at-in-ballot = c .before .before .before .in-ballot in
     let at-if1 = c .before .before .if1 in
@@ -33,7 +34,7 @@ has-mark-requires-2 : tie.Need-has-mark-requires-2
 has-mark-requires-2 c κs = search needs
 
 returns-3 : tie.Need-returns-3
-unfolding must readSays
+unfolding must readRule
 returns-3 c =
     let at-in-ballot = c .before .before .before .before .before .in-ballot in
     let at-if1 = c .before .before .before .before .if1 in
@@ -47,7 +48,7 @@ outbid-requires : tie.Need-outbid-requires
 outbid-requires c κs = search needs
 
 returns-4 : tie.Need-returns-4
-unfolding must readSays
+unfolding must readRule
 returns-4 c =
     let at-in-ballot = c .before .before .before .before .before .before .before .before .before .in-ballot in
     let at-if1 = c .before .before .before .before .before .before .before .before .if1 in
@@ -72,7 +73,7 @@ meet-requires : tie.Need-meet-requires
 meet-requires c κs = search needs
 
 returns-5 : tie.Need-returns-5
-unfolding must readSays reading marking
+unfolding must readRule reading marking
 returns-5 c =
     let at-in-ballot = c .before .before .before .before .before .before .before .before .before .before .in-ballot in
     let at-if1 = c .before .before .before .before .before .before .before .before .before .if1 in

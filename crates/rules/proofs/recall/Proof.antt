@@ -5,10 +5,11 @@ use Rattle.rules.proofs.recall.Tie as tie
 use mathlib.Core.Path.{_∙_, sym}
 use borrow.Author.Tests.{eq-eqb, ne-eqb}
 use Rattle.synod.specs.Changes.{recalling, topping, marking}
-use Rattle.synod.specs.Rules.{must, recallSays}
+use Rattle.checks.specs.Checks.{must}
+use Rattle.synod.specs.Rules.{recallRule}
 
 returns : tie.Need-returns
-unfolding must recallSays
+unfolding must recallRule
 returns c =
     let at-if1 = c .if1 in
     simp (ne-eqb _ _ (at-if1 .taken))
@@ -17,7 +18,7 @@ has-mark-requires : tie.Need-has-mark-requires
 has-mark-requires c κs = search needs
 
 returns-2 : tie.Need-returns-2
-unfolding must recallSays
+unfolding must recallRule
 returns-2 c =
     let at-if1 = c .before .before .if1 in
     let at-has-mark = c .before .has-mark in
@@ -40,7 +41,7 @@ meet-requires : tie.Need-meet-requires
 meet-requires c κs = search needs
 
 returns-3 : tie.Need-returns-3
-unfolding must recallSays recalling topping marking
+unfolding must recallRule recalling topping marking
 returns-3 c =
     let at-if1 = c .before .before .before .before .before .if1 in
     let at-has-mark = c .before .before .before .before .has-mark in

@@ -6,20 +6,21 @@ use mathlib.Core.Path.{_∙_, sym}
 use borrow.Author.Tests.{lt-ltb, le-ltb, eq-eqb, ne-eqb, not-true, not-false}
 use Rattle.rules.proofs.Judged.{judged}
 use Rattle.synod.specs.Changes.{rejoining}
-use Rattle.synod.specs.Rules.{must, recalledOn, rejoinSays}
+use Rattle.checks.specs.Checks.{must}
+use Rattle.synod.specs.Rules.{recalledOn, rejoinRule}
 
 is-own-requires : tie.Need-is-own-requires
 is-own-requires c κs = search needs
 
 returns : tie.Need-returns
-unfolding must rejoinSays
+unfolding must rejoinRule
 returns c =
     let at-is-own = c .before .is-own in
     let at-if1 = c .if1 in
     simp (sym (at-is-own .ensures) ∙ not-true _ (at-if1 .taken))
 
 returns-2 : tie.Need-returns-2
-unfolding must rejoinSays
+unfolding must rejoinRule
 returns-2 c =
     let at-is-own = c .before .before .before .is-own in
     let at-if1 = c .before .before .if1 in
@@ -33,7 +34,7 @@ is-majority-requires : tie.Need-is-majority-requires
 is-majority-requires c κs = search needs
 
 returns-3 : tie.Need-returns-3
-unfolding must rejoinSays
+unfolding must rejoinRule
 returns-3 c =
     let at-args = c .before .before .before .before .before .before .before .args in
     let at-recalled = c .before .before .recalled in
@@ -46,7 +47,7 @@ returns-3 c =
     simp (sym (at-is-own .ensures) ∙ not-false _ (at-if1 .left), eq-eqb _ _ (at-if2 .left), sym e ∙ not-true _ (at-if3 .taken))
 
 returns-4 : tie.Need-returns-4
-unfolding must rejoinSays
+unfolding must rejoinRule
 returns-4 c =
     let at-args = c .before .before .before .before .before .before .before .before .before .args in
     let at-recalled = c .before .before .before .before .recalled in
@@ -66,7 +67,7 @@ cleared-requires : tie.Need-cleared-requires
 cleared-requires c κs = search needs
 
 returns-5 : tie.Need-returns-5
-unfolding must rejoinSays rejoining
+unfolding must rejoinRule rejoining
 returns-5 c =
     let at-args = c .before .before .before .before .before .before .before .before .before .before .before .args in
     let at-recalled = c .before .before .before .before .before .before .recalled in

@@ -5,13 +5,14 @@ use Rattle.rules.proofs.write.Tie as tie
 use mathlib.Core.Path.{_∙_, sym}
 use borrow.Author.Tests.{not-true, not-false}
 use Rattle.synod.specs.Changes.{writing}
-use Rattle.synod.specs.Rules.{must, writeSays}
+use Rattle.checks.specs.Checks.{must}
+use Rattle.synod.specs.Rules.{writeRule}
 
 in-ballot-requires : tie.Need-in-ballot-requires
 in-ballot-requires c κs = search needs
 
 returns : tie.Need-returns
-unfolding must writeSays
+unfolding must writeRule
 returns c =
     let at-in-ballot = c .before .in-ballot in
     let at-if1 = c .if1 in
@@ -21,7 +22,7 @@ has-mark-requires : tie.Need-has-mark-requires
 has-mark-requires c κs = search needs
 
 returns-2 : tie.Need-returns-2
-unfolding must writeSays
+unfolding must writeRule
 returns-2 c =
     let at-in-ballot = c .before .before .before .in-ballot in
     let at-if1 = c .before .before .if1 in
@@ -33,7 +34,7 @@ with-mark-requires : tie.Need-with-mark-requires
 with-mark-requires c κs = search needs
 
 returns-3 : tie.Need-returns-3
-unfolding must writeSays writing
+unfolding must writeRule writing
 returns-3 c =
     let at-in-ballot = c .before .before .before .before .in-ballot in
     let at-if1 = c .before .before .before .if1 in
