@@ -9,7 +9,7 @@ use lib.ListN.{length, getD, set, length-set}
 use lib.Seq.{getD-set-same, getD-set-other}
 use Rattle.state.specs.declared.Block.{Block}
 use Rattle.state.specs.declared.Server.{Server}
-use Rattle.layout.specs.Places.{recordLength, blockLength}
+use Rattle.layout.specs.Places.{serverLength, blockLength}
 use Rattle.layout.specs.Cells.{put, putFrom, serverIn, serverCells, blockIn, blockCells}
 use Rattle.layout.proofs.PlaceLaws.{Apart}
 
@@ -74,10 +74,10 @@ unfolding Same
 first-cell r t at n h s =
     ap (λ (j : ℕ). getD r j 0) (sym (add-zero at)) ∙ s 0 h ∙ ap (λ (j : ℕ). getD t j 0) (add-zero at)
 
-pub server-same : (r t : List ℕ) (at : ℕ) → Same r t at recordLength → serverIn r at ≡ serverIn t at
+pub server-same : (r t : List ℕ) (at : ℕ) → Same r t at serverLength → serverIn r at ≡ serverIn t at
 unfolding Same
 server-same r t at s =
-    let f = first-cell r t at recordLength (omega arith) s in
+    let f = first-cell r t at serverLength (omega arith) s in
     let a = s 1 (omega arith) in
     let b = s 2 (omega arith) in
     let c = s 3 (omega arith) in
@@ -117,7 +117,7 @@ apart-same r at xs b n h i l =
     (⊎-elim (λ e. mathlib.Core.Logic.inr (omega arith)) (λ e. mathlib.Core.Logic.inl (omega arith)) h)
 
 -- what was stored at a place is read there
-pub put-server : (r : List ℕ) (at : ℕ) (v : Server) → at + recordLength ≤ length r → serverIn (put r at (serverCells v)) at ≡ v
+pub put-server : (r : List ℕ) (at : ℕ) (v : Server) → at + serverLength ≤ length r → serverIn (put r at (serverCells v)) at ≡ v
 put-server r at v h =
     let xs = serverCells v in
     let f = ap (λ (j : ℕ). getD (put r at xs) j 0) (sym (add-zero at)) ∙ put-at r at xs 0 (omega arith) h in

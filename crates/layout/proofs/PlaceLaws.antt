@@ -11,7 +11,7 @@ use lib.Dec.{leb}
 use borrow.Author.Tests.{leb-true, le-leb}
 use Rattle.lemmas.proofs.Tests.{and-left, and-right}
 use Rattle.state.specs.declared.Sizes.{Sizes}
-use Rattle.layout.specs.Places.{base, recordLength, blockLength, slotLength, roomLength, slotAt, serverAt, nthBlockAt, blockAt, sizesFit, Fit}
+use Rattle.layout.specs.Places.{base, serverLength, blockLength, longestSlot, longestRoom, slotLength, roomLength, slotAt, serverAt, nthBlockAt, blockAt, sizesFit, Fit}
 
 -- the test of the sizes and the bounds say the same
 pub fit-of : (z : Sizes) → sizesFit z ≡ true → Fit z
@@ -53,7 +53,7 @@ module _ (z : Sizes) (fit : Fit z) where
   pub blocks-bound : z .drives * z .servers ≤ 28
   blocks-bound = mul-le-mul (fit .drives) (fit .servers)
 
-  pub slot-bound : slotLength z ≤ 124
+  pub slot-bound : slotLength z ≤ longestSlot
   unfolding slotLength
   slot-bound = omega (arith, blocks-bound, fit .servers)
 
@@ -64,13 +64,13 @@ module _ (z : Sizes) (fit : Fit z) where
       omega (arith, mul-le-mul-right (slotLength z) l)
 
   -- a product of the code, whose factor is the slot's length, is small
-  pub slots-small : (s l : ℕ) → l ≡ slotLength z → s ≤ z .slots → s * l ≤ 1984
+  pub slots-small : (s l : ℕ) → l ≡ slotLength z → s ≤ z .slots → s * l ≤ 16 * longestSlot
   slots-small s l e h =
       let b : s ≤ 16 = omega (arith, fit .slots) in
-      let c : l ≤ 124 = omega (arith, slot-bound) in
+      let c : l ≤ longestSlot = omega (arith, slot-bound) in
       mul-le-mul b c
 
-  pub room-bound : roomLength z ≤ 1988
+  pub room-bound : roomLength z ≤ longestRoom
   unfolding roomLength
   room-bound = omega (arith, mul-le-mul (fit .slots) slot-bound)
 
@@ -89,28 +89,28 @@ module _ (z : Sizes) (fit : Fit z) where
   -- the parts of slot s, in the code's own terms: l is the slot's length and n the room's
   pub slot-within
       : (s l n : ℕ) → l ≡ slotLength z → s < z .slots → n ≡ roomLength z
-      → base + s * l + recordLength * z .servers + blockLength * (z .drives * z .servers) ≤ n
+      → base + s * l + serverLength * z .servers + blockLength * (z .drives * z .servers) ≤ n
   unfolding slotLength roomLength
   slot-within s l n e h r =
       let m : s * l ≡ s * slotLength z = ap (λ (x : ℕ). s * x) e in
       omega (arith, slots-within s h)
 
-  record-in-slot : (p : ℕ) → p < z .servers → recordLength * p + recordLength ≤ slotLength z
+  record-in-slot : (p : ℕ) → p < z .servers → serverLength * p + serverLength ≤ slotLength z
   unfolding slotLength
   record-in-slot p h = omega arith
 
-  block-in-slot : (k : ℕ) → k < z .drives * z .servers → recordLength * z .servers + blockLength * k + blockLength ≤ slotLength z
+  block-in-slot : (k : ℕ) → k < z .drives * z .servers → serverLength * z .servers + blockLength * k + blockLength ≤ slotLength z
   unfolding slotLength
   block-in-slot k h = omega arith
 
-  pub server-within : (s p : ℕ) → s < z .slots → p < z .servers → serverAt z s p + recordLength ≤ roomLength z
+  pub server-within : (s p : ℕ) → s < z .slots → p < z .servers → serverAt z s p + serverLength ≤ roomLength z
   unfolding serverAt
-  server-within s p h l = within-room s (recordLength * p) recordLength h (record-in-slot p l)
+  server-within s p h l = within-room s (serverLength * p) serverLength h (record-in-slot p l)
 
   pub nth-within : (s k : ℕ) → s < z .slots → k < z .drives * z .servers → nthBlockAt z s k + blockLength ≤ roomLength z
   unfolding nthBlockAt
   nth-within s k h l =
-      omega (arith, within-room s (recordLength * z .servers + blockLength * k) blockLength h (block-in-slot k l))
+      omega (arith, within-room s (serverLength * z .servers + blockLength * k) blockLength h (block-in-slot k l))
 
   pub nth-of : (d p : ℕ) → d < z .drives → p < z .servers → d * z .servers + p < z .drives * z .servers
   nth-of d p h l = digits-lt h l
@@ -157,16 +157,16 @@ module _ (z : Sizes) (fit : Fit z) where
 
   pub servers-apart
       : (s p t q : ℕ) → p < z .servers → q < z .servers → (s ≡ t → p ≡ q → ⊥)
-      → Apart (serverAt z s p) recordLength (serverAt z t q) recordLength
+      → Apart (serverAt z s p) serverLength (serverAt z t q) serverLength
   unfolding serverAt Apart
   servers-apart s p t q l k h = go (native.Mathlib.Decide.ℕ-discrete s t)
     where
-      go : Dec (s ≡ t) → Apart (slotAt z s + recordLength * p) recordLength (slotAt z t + recordLength * q) recordLength
+      go : Dec (s ≡ t) → Apart (slotAt z s + serverLength * p) serverLength (slotAt z t + serverLength * q) serverLength
       go (yes e) =
           let f : slotAt z s ≡ slotAt z t = ap (slotAt z) e in
           ordered p q (h e) (λ b. inl (omega arith)) (λ b. inr (omega arith))
       go (no e) =
-          slots-apart s t (recordLength * p) recordLength (recordLength * q) recordLength e
+          slots-apart s t (serverLength * p) serverLength (serverLength * q) serverLength e
           (record-in-slot z fit p l) (record-in-slot z fit q k)
 
   pub nths-apart
@@ -176,7 +176,7 @@ module _ (z : Sizes) (fit : Fit z) where
   nths-apart s k t j l m h = go (native.Mathlib.Decide.ℕ-discrete s t)
     where
       front : ℕ
-      front = recordLength * z .servers
+      front = serverLength * z .servers
 
       regroup : (u i : ℕ) → slotAt z u + front + blockLength * i ≡ slotAt z u + (front + blockLength * i)
       regroup u i = omega arith
@@ -194,21 +194,21 @@ module _ (z : Sizes) (fit : Fit z) where
 
   pub server-nth-apart
       : (s p t k : ℕ) → p < z .servers → k < z .drives * z .servers
-      → Apart (serverAt z s p) recordLength (nthBlockAt z t k) blockLength
+      → Apart (serverAt z s p) serverLength (nthBlockAt z t k) blockLength
   unfolding serverAt nthBlockAt Apart
   server-nth-apart s p t k l m = go (native.Mathlib.Decide.ℕ-discrete s t)
     where
       front : ℕ
-      front = recordLength * z .servers
+      front = serverLength * z .servers
 
       regroup : slotAt z t + front + blockLength * k ≡ slotAt z t + (front + blockLength * k)
       regroup = omega arith
 
-      go : Dec (s ≡ t) → Apart (slotAt z s + recordLength * p) recordLength (slotAt z t + front + blockLength * k) blockLength
+      go : Dec (s ≡ t) → Apart (slotAt z s + serverLength * p) serverLength (slotAt z t + front + blockLength * k) blockLength
       go (yes e) =
           let f : slotAt z s ≡ slotAt z t = ap (slotAt z) e in
           inl (omega arith)
       go (no e) =
           rw regroup
-          (slots-apart s t (recordLength * p) recordLength (front + blockLength * k) blockLength e
+          (slots-apart s t (serverLength * p) serverLength (front + blockLength * k) blockLength e
           (record-in-slot z fit p l) (block-in-slot z fit k m))

@@ -11,7 +11,7 @@ use lib.Seq.{getD-set-other}
 use Rattle.state.specs.declared.Block.{Block}
 use Rattle.state.specs.declared.Server.{Server}
 use Rattle.state.specs.declared.Sizes.{Sizes}
-use Rattle.layout.specs.Places.{base, recordLength, blockLength, serverAt, nthBlockAt, blockAt, Row}
+use Rattle.layout.specs.Places.{base, serverLength, blockLength, serverAt, nthBlockAt, blockAt, Row}
 use Rattle.layout.specs.Cells.{put, sizesOf, offOf, offAt, serverCells, blockIn, blockCells, serverOf, putServer, blockOf, putBlock}
 use Rattle.layout.proofs.PlaceLaws.{Apart, server-within, block-within, nth-of, servers-apart, nths-apart, server-nth-apart, base-server, base-nth}
 use Rattle.layout.proofs.CellLaws.{Same, put-length, put-outside, server-same, block-same, apart-same, put-server, put-block}
@@ -62,7 +62,7 @@ module _ (z : Sizes) (r : List ℕ) (row : Row z r) where
     unfolding putServer serverOf
     other-server-after-server t q l k h =
         server-same (put r (serverAt z s p) (serverCells v)) r (serverAt z t q)
-        (apart-same r (serverAt z s p) (serverCells v) (serverAt z t q) recordLength
+        (apart-same r (serverAt z s p) (serverCells v) (serverAt z t q) serverLength
         (servers-apart z (row .fit) s p t q l k h))
 
     pub nth-after-server
@@ -131,8 +131,8 @@ module _ (z : Sizes) (r : List ℕ) (row : Row z r) where
     unfolding putBlock serverOf blockAt
     server-after-block t q l k m =
         server-same (put r (nthBlockAt z s (d * z .servers + p)) (blockCells b)) r (serverAt z t q)
-        (apart-same r (nthBlockAt z s (d * z .servers + p)) (blockCells b) (serverAt z t q) recordLength
-        (turned (serverAt z t q) recordLength (nthBlockAt z s (d * z .servers + p)) blockLength
+        (apart-same r (nthBlockAt z s (d * z .servers + p)) (blockCells b) (serverAt z t q) serverLength
+        (turned (serverAt z t q) serverLength (nthBlockAt z s (d * z .servers + p)) blockLength
         (server-nth-apart z (row .fit) t q s (d * z .servers + p) l (nth-of z (row .fit) d p k m))))
 
   module _ (m : ℕ) where
@@ -154,7 +154,7 @@ module _ (z : Sizes) (r : List ℕ) (row : Row z r) where
     pub server-after-off : (t q : ℕ) → serverOf z (set r offAt m) t q ≡ serverOf z r t q
     unfolding serverOf
     server-after-off t q =
-        server-same (set r offAt m) r (serverAt z t q) (off-same (serverAt z t q) recordLength (base-server z (row .fit) t q))
+        server-same (set r offAt m) r (serverAt z t q) (off-same (serverAt z t q) serverLength (base-server z (row .fit) t q))
 
     pub nth-after-off : (t k : ℕ) → blockIn (set r offAt m) (nthBlockAt z t k) ≡ blockIn r (nthBlockAt z t k)
     nth-after-off t k =

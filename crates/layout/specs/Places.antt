@@ -12,16 +12,23 @@ abbrev pub base : ℕ
 base = 4
 
 -- cells of a server record
-abbrev pub recordLength : ℕ
-recordLength = 10
+abbrev pub serverLength : ℕ
+serverLength = 10
 
 -- cells of a block
 abbrev pub blockLength : ℕ
 blockLength = 3
 
+-- cells of the longest slot and of the longest room: 4 servers, 7 drives, 16 slots
+abbrev pub longestSlot : ℕ
+longestSlot = serverLength * 4 + blockLength * 28
+
+abbrev pub longestRoom : ℕ
+longestRoom = base + 16 * longestSlot
+
 -- the cells of one slot: N records, then for each drive N blocks
 unfoldable pub slotLength : Sizes → ℕ
-slotLength z = recordLength * z .servers + blockLength * (z .drives * z .servers)
+slotLength z = serverLength * z .servers + blockLength * (z .drives * z .servers)
 
 -- "length 4 + S × (10 × N + 3 × D × N)"
 unfoldable pub roomLength : Sizes → ℕ
@@ -33,11 +40,11 @@ slotAt z s = base + s * slotLength z
 
 -- where the record of server p in slot s begins
 unfoldable pub serverAt : Sizes → ℕ → ℕ → ℕ
-serverAt z s p = slotAt z s + recordLength * p
+serverAt z s p = slotAt z s + serverLength * p
 
 -- where the k-th block of slot s begins, counted drive by drive
 unfoldable pub nthBlockAt : Sizes → ℕ → ℕ → ℕ
-nthBlockAt z s k = slotAt z s + recordLength * z .servers + blockLength * k
+nthBlockAt z s k = slotAt z s + serverLength * z .servers + blockLength * k
 
 -- where server p's block on drive d in slot s begins
 unfoldable pub blockAt : Sizes → ℕ → ℕ → ℕ → ℕ

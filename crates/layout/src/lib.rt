@@ -2,18 +2,21 @@
 ghost use mathlib.Core.Path.{_≡_};
 ghost use Prim.Native.Nat.{_+_, _<_, _≤_};
 ghost use lib.ListN.{length, replicate};
-ghost use Rattle.layout.specs.Places.{Fit, Row, sizesFit, slotLength, roomLength, serverAt, blockAt};
+ghost use Rattle.layout.specs.Places.{base, serverLength, blockLength, Fit, Row, sizesFit, slotLength, roomLength, serverAt, blockAt};
 ghost use Rattle.layout.specs.Cells.{sizesOf, serverIn, blockIn, serverOf, blockOf, putServer, putBlock};
 use state::Block;
 use state::Server;
 use state::Sizes;
 
-// The first cell of slot 0.
-pub const BASE: usize = 4;
-// The cells of a server record and of a block.
-pub const RECORD: usize = 10;
+// The cell of the off marks, and the first cell of slot 0.
+pub const OFF: usize = 3;
 
-pub const BLOCK: usize = 3;
+pub const BASE: usize = 4;
+
+// The cells of a server record and of a block.
+pub const SERVER_CELLS: usize = 10;
+
+pub const BLOCK_CELLS: usize = 3;
 
 // Whether the sizes are those of a room.
 pub fn sizes_fit(z: Sizes) -> bool
@@ -27,9 +30,9 @@ pub fn sizes_fit(z: Sizes) -> bool
         & (z.slots <= 16)
 }
 
-// The sizes that a row of at least four cells claims.
+// The sizes that a row claims whose head is there.
 pub fn sizes(room: &[u32]) -> Sizes
-    requires { ⌜ 4 ≤ length (now room) ⌝ }
+    requires { ⌜ base ≤ length (now room) ⌝ }
     ensures { λ r. ⌜ r ≡ sizesOf (now (room .entry)) ⌝ }
 {
     Sizes {
@@ -43,7 +46,7 @@ pub fn slot_length(z: Sizes) -> usize
     requires { ⌜ Fit z ⌝ }
     ensures { λ r. ⌜ r ≡ slotLength z ⌝ }
 {
-    RECORD * (z.servers as usize) + BLOCK * ((z.drives as usize) * (z.servers as usize))
+    SERVER_CELLS * (z.servers as usize) + BLOCK_CELLS * ((z.drives as usize) * (z.servers as usize))
 }
 
 pub fn room_length(z: Sizes) -> usize
@@ -58,7 +61,7 @@ pub fn server_at(z: Sizes, s: u8, p: u8) -> usize
     requires { ⌜ Fit z × (s < z .slots) × (p < z .servers) ⌝ }
     ensures { λ r. ⌜ r ≡ serverAt z s p ⌝ }
 {
-    BASE + (s as usize) * slot_length(z) + RECORD * (p as usize)
+    BASE + (s as usize) * slot_length(z) + SERVER_CELLS * (p as usize)
 }
 
 // Where server p's block on drive d in slot s begins.
@@ -67,12 +70,12 @@ pub fn block_at(z: Sizes, s: u8, d: u8, p: u8) -> usize
     ensures { λ r. ⌜ r ≡ blockAt z s d p ⌝ }
 {
     let nth = (d as usize) * (z.servers as usize) + (p as usize);
-    BASE + (s as usize) * slot_length(z) + RECORD * (z.servers as usize) + BLOCK * nth
+    BASE + (s as usize) * slot_length(z) + SERVER_CELLS * (z.servers as usize) + BLOCK_CELLS * nth
 }
 
 // The server record that begins at a cell.
 pub fn server_in(room: &[u32], at: usize) -> Server
-    requires { ⌜ at + 10 ≤ length (now room) ⌝ }
+    requires { ⌜ at + serverLength ≤ length (now room) ⌝ }
     ensures { λ r. ⌜ r ≡ serverIn (now (room .entry)) at ⌝ }
 {
     Server {
@@ -91,7 +94,7 @@ pub fn server_in(room: &[u32], at: usize) -> Server
 
 // The block that begins at a cell.
 pub fn block_in(room: &[u32], at: usize) -> Block
-    requires { ⌜ at + 3 ≤ length (now room) ⌝ }
+    requires { ⌜ at + blockLength ≤ length (now room) ⌝ }
     ensures { λ r. ⌜ r ≡ blockIn (now (room .entry)) at ⌝ }
 {
     Block {

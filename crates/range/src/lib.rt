@@ -3,7 +3,7 @@ ghost use mathlib.Core.Path.{_≡_};
 ghost use Prim.Native.Nat.{_+_, _*_, _<_, _≤_};
 ghost use lib.ListN.{length};
 ghost use Rattle.quorum.specs.Sets.{allBelow};
-ghost use Rattle.layout.specs.Places.{Fit, Row};
+ghost use Rattle.layout.specs.Places.{serverLength, blockLength, Fit, Row};
 ghost use Rattle.layout.specs.Cells.{serverIn, blockIn};
 ghost use Rattle.range.specs.Range.{masksOf, valueFits, numbersFit, serverFits, blockFits, slotFits, inRange};
 use command::is_command;
@@ -39,7 +39,7 @@ pub fn masks_of(z: Sizes) -> Masks
 pub fn in_range(room: &[u32], limits: &[u32; 8]) -> bool
     ensures { λ r. ⌜ r ≡ inRange (now (limits .entry)) (now (room .entry)) ⌝ }
 {
-    if room.len() < 4 {
+    if room.len() < layout::BASE {
         return false;
     }
     let z = sizes(room);
@@ -50,7 +50,7 @@ pub fn in_range(room: &[u32], limits: &[u32; 8]) -> bool
         return false;
     }
     let k = masks_of(z);
-    if !only_legal(room[3], k.drives) {
+    if !only_legal(room[layout::OFF], k.drives) {
         return false;
     }
     slots_fit(room, limits, z, k)
@@ -69,7 +69,7 @@ fn slots_fit(room: &[u32], limits: &[u32; 8], z: Sizes, k: Masks) -> bool
         if !servers_fit(room, limits, k, at, servers) {
             return false;
         }
-        if !blocks_fit(room, limits, at + layout::RECORD * servers, blocks) {
+        if !blocks_fit(room, limits, at + layout::SERVER_CELLS * servers, blocks) {
             return false;
         }
         s += 1;
@@ -79,12 +79,12 @@ fn slots_fit(room: &[u32], limits: &[u32; 8], z: Sizes, k: Masks) -> bool
 
 // The server records that stand one after the other from a cell on.
 fn servers_fit(room: &[u32], limits: &[u32; 8], k: Masks, first: usize, count: usize) -> bool
-    requires { ⌜ first + 10 * count ≤ length (now room) ⌝ }
-    ensures { λ r. ⌜ r ≡ allBelow count (λ p. serverFits (now (limits .entry)) k (serverIn (now (room .entry)) (first + 10 * p))) ⌝ }
+    requires { ⌜ first + serverLength * count ≤ length (now room) ⌝ }
+    ensures { λ r. ⌜ r ≡ allBelow count (λ p. serverFits (now (limits .entry)) k (serverIn (now (room .entry)) (first + serverLength * p))) ⌝ }
 {
     let mut p = 0;
     while p < count {
-        if !server_fits(limits, k, server_in(room, first + layout::RECORD * p)) {
+        if !server_fits(limits, k, server_in(room, first + layout::SERVER_CELLS * p)) {
             return false;
         }
         p += 1;
@@ -94,12 +94,12 @@ fn servers_fit(room: &[u32], limits: &[u32; 8], k: Masks, first: usize, count: u
 
 // The blocks that stand one after the other from a cell on.
 fn blocks_fit(room: &[u32], limits: &[u32; 8], first: usize, count: usize) -> bool
-    requires { ⌜ first + 3 * count ≤ length (now room) ⌝ }
-    ensures { λ r. ⌜ r ≡ allBelow count (λ j. blockFits (now (limits .entry)) (blockIn (now (room .entry)) (first + 3 * j))) ⌝ }
+    requires { ⌜ first + blockLength * count ≤ length (now room) ⌝ }
+    ensures { λ r. ⌜ r ≡ allBelow count (λ j. blockFits (now (limits .entry)) (blockIn (now (room .entry)) (first + blockLength * j))) ⌝ }
 {
     let mut j = 0;
     while j < count {
-        if !block_fits(limits, block_in(room, first + layout::BLOCK * j)) {
+        if !block_fits(limits, block_in(room, first + layout::BLOCK_CELLS * j)) {
             return false;
         }
         j += 1;

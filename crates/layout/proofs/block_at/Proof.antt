@@ -5,7 +5,7 @@ use Rattle.layout.proofs.block_at.Tie as tie
 use native.Mathlib.Omega.{arith}
 use mathlib.Core.Path.{ap}
 use Prim.Native.Nat.{ℕ, _+_, _*_}
-use Rattle.layout.specs.Places.{blockAt, nthBlockAt, slotAt}
+use Rattle.layout.specs.Places.{base, serverLength, blockLength, blockAt, nthBlockAt, slotAt}
 use Rattle.layout.proofs.PlaceLaws.{slots-small, blocks-bound, nth-of}
 
 cast-nth : tie.Need-cast-nth
@@ -71,7 +71,7 @@ unfolding blockAt nthBlockAt slotAt
 returns c =
     let at-args = c .before .before .before .args in
     let at-slot-length = c .before .slot-length in
-    ap (λ (l : ℕ). 4 + at-args .s * l + 10 * at-args .z .servers + 3 * (at-args .d * at-args .z .servers + at-args .p)) (at-slot-length .ensures)
+    ap (λ (l : ℕ). base + at-args .s * l + serverLength * at-args .z .servers + blockLength * (at-args .d * at-args .z .servers + at-args .p)) (at-slot-length .ensures)
 
 pub block-at-spec : {M : Type 1} → statement M
 block-at-spec =

@@ -5,7 +5,7 @@ use Rattle.layout.proofs.room_length.Tie as tie
 use native.Mathlib.Omega.{arith}
 use mathlib.Core.Path.{ap}
 use Prim.Native.Nat.{ℕ, _+_, _*_}
-use Rattle.layout.specs.Places.{roomLength}
+use Rattle.layout.specs.Places.{base, roomLength}
 use Rattle.layout.proofs.PlaceLaws.{slots-small}
 
 cast-result : tie.Need-cast-result
@@ -33,7 +33,7 @@ unfolding roomLength
 returns c =
     let at-args = c .before .before .args in
     let at-slot-length = c .slot-length in
-    ap (λ (l : ℕ). 4 + at-args .z .slots * l) (at-slot-length .ensures)
+    ap (λ (l : ℕ). base + at-args .z .slots * l) (at-slot-length .ensures)
 
 pub room-length-spec : {M : Type 1} → statement M
 room-length-spec =

@@ -5,7 +5,7 @@ use Rattle.layout.proofs.server_at.Tie as tie
 use native.Mathlib.Omega.{arith}
 use mathlib.Core.Path.{ap}
 use Prim.Native.Nat.{ℕ, _+_, _*_}
-use Rattle.layout.specs.Places.{serverAt, slotAt}
+use Rattle.layout.specs.Places.{base, serverLength, serverAt, slotAt}
 use Rattle.layout.proofs.PlaceLaws.{slots-small}
 
 slot-length-requires : tie.Need-slot-length-requires
@@ -40,7 +40,7 @@ unfolding serverAt slotAt
 returns c =
     let at-args = c .before .args in
     let at-slot-length = c .slot-length in
-    ap (λ (l : ℕ). 4 + at-args .s * l + 10 * at-args .p) (at-slot-length .ensures)
+    ap (λ (l : ℕ). base + at-args .s * l + serverLength * at-args .p) (at-slot-length .ensures)
 
 pub server-at-spec : {M : Type 1} → statement M
 server-at-spec =

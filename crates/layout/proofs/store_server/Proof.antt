@@ -4,6 +4,7 @@ use native.Mathlib.Omega.{arith}
 use mathlib.Core.Path.{ap}
 use Prim.Native.Nat.{ℕ, _+_, _≤_}
 use lib.ListN.{length, length-set}
+use Rattle.layout.specs.Places.{serverLength, longestRoom}
 use Rattle.layout.specs.Cells.{put, serverCells, putServer}
 use Rattle.layout.proofs.PlaceLaws.{server-within, room-bound}
 use Rattle.layout.proofs.store_server.Statement.{statement}
@@ -14,8 +15,8 @@ server-at-requires c κs = search needs
 
 -- the ten cells from the place on are in the row, and the row is short
 record Inside (c : tie.After-server-at) : Type 0 where
-  end : c .server-at .result + 10 ≤ length (c .before .before .args .room .now)
-  small : length (c .before .before .args .room .now) ≤ 1988
+  end : c .server-at .result + serverLength ≤ length (c .before .before .args .room .now)
+  small : length (c .before .before .args .room .now) ≤ longestRoom
 
 inside : (c : tie.After-server-at) → Inside c
 inside c =

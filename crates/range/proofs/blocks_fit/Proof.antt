@@ -10,12 +10,13 @@ use mathlib.Core.List.{List}
 use borrow.Author.Tests.{not-true, not-false}
 use Rattle.quorum.specs.Sets.{allBelow}
 use Rattle.quorum.proofs.SetLaws.{all-none, all-more, all-fails}
+use Rattle.layout.specs.Places.{blockLength}
 use Rattle.layout.specs.Cells.{blockIn}
 use Rattle.range.specs.Range.{blockFits}
 
 -- the test of one of them
 abbrev each : List ℕ → List ℕ → ℕ → ℕ → Bool
-each room limits first j = blockFits limits (blockIn room (first + 3 * j))
+each room limits first j = blockFits limits (blockIn room (first + blockLength * j))
 
 abbrev Inv-loop : tie.InvT-loop
 Inv-loop room limits first count j₀ j = (j ≤ count) × (allBelow j (each room limits first) ≡ true)

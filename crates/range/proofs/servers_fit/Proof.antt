@@ -10,13 +10,14 @@ use mathlib.Core.List.{List}
 use borrow.Author.Tests.{not-true, not-false}
 use Rattle.quorum.specs.Sets.{allBelow}
 use Rattle.quorum.proofs.SetLaws.{all-none, all-more, all-fails}
+use Rattle.layout.specs.Places.{serverLength}
 use Rattle.layout.specs.Cells.{serverIn}
 use Rattle.range.specs.Range.{serverFits}
 use Rattle.range.specs.declared.Masks.{Masks}
 
 -- the test of one of them
 abbrev each : List ℕ → List ℕ → Masks → ℕ → ℕ → Bool
-each room limits k first p = serverFits limits k (serverIn room (first + 10 * p))
+each room limits k first p = serverFits limits k (serverIn room (first + serverLength * p))
 
 abbrev Inv-loop : tie.InvT-loop
 Inv-loop room limits k first count p₀ p = (p ≤ count) × (allBelow p (each room limits k first) ≡ true)

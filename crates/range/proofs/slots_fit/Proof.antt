@@ -12,7 +12,7 @@ use Rattle.lemmas.proofs.Tests.{and-intro, none-left, none-right}
 use Rattle.quorum.specs.Sets.{allBelow}
 use Rattle.quorum.proofs.SetLaws.{all-none, all-more, all-fails}
 use Rattle.state.specs.declared.Sizes.{Sizes}
-use Rattle.layout.specs.Places.{slotLength, slotAt, serverAt, nthBlockAt}
+use Rattle.layout.specs.Places.{base, serverLength, blockLength, slotLength, slotAt, serverAt, nthBlockAt}
 use Rattle.layout.specs.Cells.{serverIn, serverOf, blockIn}
 use Rattle.layout.proofs.PlaceLaws.{blocks-bound, slots-small, slot-within}
 use Rattle.range.specs.Range.{masksOf, serverFits, blockFits, serversFit, blocksFit, slotFits}
@@ -22,17 +22,17 @@ use lib.ListN.{length}
 -- what the two calls judge are the parts of slot s
 servers-of
     : (limits : List ℕ) (z : Sizes) (room : List ℕ) (s : ℕ) (k : Masks) (l : ℕ) → l ≡ slotLength z → k ≡ masksOf z
-    → allBelow (z .servers) (λ p. serverFits limits k (serverIn room (4 + s * l + 10 * p))) ≡ serversFit limits z room s
+    → allBelow (z .servers) (λ p. serverFits limits k (serverIn room (base + s * l + serverLength * p))) ≡ serversFit limits z room s
 unfolding serversFit serverOf serverAt slotAt
 servers-of limits z room s k l e f =
-    ap₂ (λ (j : Masks) (m : ℕ). allBelow (z .servers) (λ p. serverFits limits j (serverIn room (4 + s * m + 10 * p)))) f e
+    ap₂ (λ (j : Masks) (m : ℕ). allBelow (z .servers) (λ p. serverFits limits j (serverIn room (base + s * m + serverLength * p)))) f e
 
 blocks-of
     : (limits : List ℕ) (z : Sizes) (room : List ℕ) (s l : ℕ) → l ≡ slotLength z
-    → allBelow (z .drives * z .servers) (λ j. blockFits limits (blockIn room (4 + s * l + 10 * z .servers + 3 * j))) ≡ blocksFit limits z room s
+    → allBelow (z .drives * z .servers) (λ j. blockFits limits (blockIn room (base + s * l + serverLength * z .servers + blockLength * j))) ≡ blocksFit limits z room s
 unfolding blocksFit nthBlockAt slotAt
 blocks-of limits z room s l e =
-    ap (λ (m : ℕ). allBelow (z .drives * z .servers) (λ j. blockFits limits (blockIn room (4 + s * m + 10 * z .servers + 3 * j)))) e
+    ap (λ (m : ℕ). allBelow (z .drives * z .servers) (λ j. blockFits limits (blockIn room (base + s * m + serverLength * z .servers + blockLength * j)))) e
 
 no-servers : (limits : List ℕ) (z : Sizes) (room : List ℕ) (s : ℕ) → serversFit limits z room s ≡ false → slotFits limits z room s ≡ false
 unfolding slotFits
