@@ -2,6 +2,7 @@
 use Prim.Native.Nat.{ℕ, _+_}
 use mathlib.Core.List.{List, [], _∷_}
 use lib.ListN.{getD, set}
+use Rattle.command.specs.Command.{cabinetLimits}
 use Rattle.state.specs.declared.Block.{Block}
 use Rattle.state.specs.declared.Server.{Server}
 use Rattle.state.specs.declared.Sizes.{Sizes}
@@ -26,6 +27,10 @@ offAt = 3
 
 abbrev pub offOf : List ℕ → ℕ
 offOf cells = getD cells offAt 0
+
+-- the limits by which a room's commands are judged
+abbrev pub limitsOf : List ℕ → List ℕ
+limitsOf cells = cabinetLimits
 
 -- the ten cells of a server record
 abbrev pub serverCells : Server → List ℕ

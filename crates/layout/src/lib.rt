@@ -3,7 +3,7 @@ ghost use mathlib.Core.Path.{_≡_};
 ghost use Prim.Native.Nat.{_+_, _<_, _≤_};
 ghost use lib.ListN.{length, replicate};
 ghost use Rattle.layout.specs.Places.{base, serverLength, blockLength, Fit, Row, sizesFit, slotLength, roomLength, serverAt, blockAt};
-ghost use Rattle.layout.specs.Cells.{sizesOf, serverIn, blockIn, serverOf, blockOf, putServer, putBlock};
+ghost use Rattle.layout.specs.Cells.{sizesOf, limitsOf, serverIn, blockIn, serverOf, blockOf, putServer, putBlock};
 use state::Block;
 use state::Server;
 use state::Sizes;
@@ -40,6 +40,13 @@ pub fn sizes(room: &[u32]) -> Sizes
         drives: room[1],
         slots: room[2],
     }
+}
+
+// The limits by which a room's commands are judged.
+pub fn limits(room: &[u32]) -> [u32; 8]
+    ensures { λ r. ⌜ r ≡ limitsOf (now (room .entry)) ⌝ }
+{
+    command::limits()
 }
 
 pub fn slot_length(z: Sizes) -> usize

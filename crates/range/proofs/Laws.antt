@@ -1,8 +1,9 @@
 -- Laws of the range rule: the order of its tests, and what it says of each record and block.
 use Prim.Native.Nat.{ℕ, _+_, _*_, _<_, _≤_}
-use mathlib.Core.Path.{_≡_, _∙_, sym, ap}
+use mathlib.Core.Path.{_≡_, _∙_, sym, ap₂}
 use mathlib.Core.Bool.{Bool, true, false, _&&_, and-false}
 use mathlib.Core.List.{List}
+use native.Mathlib.Nat.{le-trans, le-of-eq}
 use lib.ListN.{length}
 use lib.Dec.{eqb, leb}
 use borrow.Author.Tests.{le-leb, lt-leb, eqb-true, eq-eqb}
@@ -11,18 +12,21 @@ use Rattle.quorum.specs.Sets.{allBelow, within}
 use Rattle.quorum.proofs.SetLaws.{all-at, all-intro}
 use Rattle.state.specs.declared.Sizes.{Sizes}
 use Rattle.layout.specs.Places.{base, sizesFit, roomLength, nthBlockAt, blockAt, Row}
-use Rattle.layout.specs.Cells.{sizesOf, offOf, serverOf, blockOf, blockIn}
+use Rattle.layout.specs.Cells.{sizesOf, offOf, limitsOf, serverOf, blockOf, blockIn}
 use Rattle.layout.proofs.PlaceLaws.{fit-of, of-fit, nth-of, base-room}
 use Rattle.range.specs.Range.{legalDrives, masksOf, serverFits, blockFits, serversFit, blocksFit, slotFits, cellsFit, inRange}
 
--- the tests in their order, for a row of claimed sizes z
-pub short-row : (limits r : List ℕ) → length r < base → inRange limits r ≡ false
+-- the tests in their order, for a row of claimed limits and sizes z
+pub short-row : (r : List ℕ) → length r < base → inRange r ≡ false
 unfolding inRange
-short-row limits r h = simp (lt-leb base (length r) h)
+short-row r h = simp (lt-leb base (length r) h)
 
-pub row-of : (limits r : List ℕ) (z : Sizes) → z ≡ sizesOf r → base ≤ length r → inRange limits r ≡ cellsFit limits z r
+pub row-of
+    : (limits : List ℕ) (z : Sizes) (r : List ℕ) → limits ≡ limitsOf r → z ≡ sizesOf r → base ≤ length r
+    → inRange r ≡ cellsFit limits z r
 unfolding inRange
-row-of limits r z e h = simp (le-leb base (length r) h) (ap (λ (y : Sizes). cellsFit limits y r) (sym e))
+row-of limits z r l e h =
+    simp (le-leb base (length r) h) (ap₂ (λ (k : List ℕ) (y : Sizes). cellsFit k y r) (sym l) (sym e))
 
 module _ (limits : List ℕ) (z : Sizes) (r : List ℕ) where
   pub no-sizes : sizesFit z ≡ false → cellsFit limits z r ≡ false
@@ -98,11 +102,14 @@ say-cells limits z r i =
     (all-intro (z .servers) (λ q. serverFits limits (masksOf z) (serverOf z r s q)) (λ p l. i .servers s p h l))
     (all-intro (z .drives * z .servers) (λ j. blockFits limits (blockIn r (nthBlockAt z s j))) (λ k l. i .nths s k h l))))))
 
-pub range-says : (limits r : List ℕ) → inRange limits r ≡ true → InRange limits (sizesOf r) r
+pub range-says : (r : List ℕ) → inRange r ≡ true → InRange (limitsOf r) (sizesOf r) r
 unfolding inRange
-range-says limits r e = cells-say limits (sizesOf r) r (and-right (leb base (length r)) (cellsFit limits (sizesOf r) r) e)
+range-says r e =
+    cells-say (limitsOf r) (sizesOf r) r (and-right (leb base (length r)) (cellsFit (limitsOf r) (sizesOf r) r) e)
 
-pub says-range : (limits : List ℕ) (z : Sizes) (r : List ℕ) → z ≡ sizesOf r → InRange limits z r → inRange limits r ≡ true
-says-range limits z r e i =
-    row-of limits r z e (let b = base-room z (i .row .fit) in let x = i .row .exact in native.Mathlib.Nat.le-trans b (native.Mathlib.Nat.le-of-eq (sym x)))
+pub says-range
+    : (limits : List ℕ) (z : Sizes) (r : List ℕ) → limits ≡ limitsOf r → z ≡ sizesOf r → InRange limits z r
+    → inRange r ≡ true
+says-range limits z r l e i =
+    row-of limits z r l e (le-trans (base-room z (i .row .fit)) (le-of-eq (sym (i .row .exact))))
     ∙ say-cells limits z r i

@@ -11,7 +11,7 @@ use Rattle.state.specs.declared.Block.{Block}
 use Rattle.state.specs.declared.Server.{Server}
 use Rattle.state.specs.declared.Sizes.{Sizes}
 use Rattle.layout.specs.Places.{base, sizesFit, roomLength, nthBlockAt}
-use Rattle.layout.specs.Cells.{sizesOf, offOf, serverOf, blockIn}
+use Rattle.layout.specs.Cells.{sizesOf, offOf, limitsOf, serverOf, blockIn}
 use Rattle.range.specs.declared.Masks.{Masks}
 
 -- "marks stand only for existing drives and servers": the legal marks of drives, and of blocks read (bit 4d + q)
@@ -68,5 +68,5 @@ cellsFit limits z cells =
     && allBelow (z .slots) (slotFits limits z cells)
 
 -- a row that is a room with every cell in range
-unfoldable pub inRange : List ℕ → List ℕ → Bool
-inRange limits cells = leb base (length cells) && cellsFit limits (sizesOf cells) cells
+unfoldable pub inRange : List ℕ → Bool
+inRange cells = leb base (length cells) && cellsFit (limitsOf cells) (sizesOf cells) cells

@@ -35,13 +35,14 @@ pub fn masks_of(z: Sizes) -> Masks
     }
 }
 
-// Whether the row is a room with every cell in range, by the cabinets' limits given.
-pub fn in_range(room: &[u32], limits: &[u32; 8]) -> bool
-    ensures { λ r. ⌜ r ≡ inRange (now (limits .entry)) (now (room .entry)) ⌝ }
+// Whether the row is a room with every cell in range, by the room's own limits.
+pub fn in_range(room: &[u32]) -> bool
+    ensures { λ r. ⌜ r ≡ inRange (now (room .entry)) ⌝ }
 {
     if room.len() < layout::BASE {
         return false;
     }
+    let limits = layout::limits(room);
     let z = sizes(room);
     if !sizes_fit(z) {
         return false;
@@ -53,7 +54,7 @@ pub fn in_range(room: &[u32], limits: &[u32; 8]) -> bool
     if !only_legal(room[layout::OFF], k.drives) {
         return false;
     }
-    slots_fit(room, limits, z, k)
+    slots_fit(room, &limits, z, k)
 }
 
 fn slots_fit(room: &[u32], limits: &[u32; 8], z: Sizes, k: Masks) -> bool

@@ -2,22 +2,64 @@
 use borrow.Author.Needs.{needs}
 use Rattle.range.proofs.in_range.Statement.{statement}
 use Rattle.range.proofs.in_range.Tie as tie
-use mathlib.Core.Path.{_∙_, sym, ap}
-use borrow.Author.Tests.{not-true, not-false, eq-eqb, ne-eqb}
 use Prim.Native.Nat.{ℕ}
+use mathlib.Core.Path.{_≡_, _∙_, sym, ap}
+use mathlib.Core.Bool.{true}
+use mathlib.Core.List.{List}
+use borrow.Author.Tests.{not-true, not-false, eq-eqb, ne-eqb}
 use lib.Dec.{eqb}
 use lib.ListN.{length}
 use Rattle.quorum.specs.Sets.{within}
+use Rattle.state.specs.declared.Sizes.{Sizes}
+use Rattle.layout.specs.Places.{sizesFit, roomLength}
 use Rattle.layout.specs.Cells.{offOf}
 use Rattle.layout.proofs.PlaceLaws.{fit-of}
 use Rattle.range.specs.declared.Masks.{Masks}
+use Rattle.range.specs.Range.{legalDrives, cellsFit, inRange}
 use Rattle.range.proofs.Laws.{short-row, row-of, no-sizes, no-length, no-off, then-slots}
 
+-- the row, and the limits and sizes that the code has read of it
+abbrev row : tie.After-sizes → List ℕ
+row c = c .before .before .before .before .args .room .now
+
+abbrev limits : tie.After-sizes → List ℕ
+limits c = c .before .limits .result
+
+abbrev sizes : tie.After-sizes → Sizes
+sizes c = c .sizes .result
+
+claimed : (c : tie.After-sizes) → inRange (row c) ≡ cellsFit (limits c) (sizes c) (row c)
+claimed c =
+    row-of (limits c) (sizes c) (row c) (c .before .limits .ensures) (c .sizes .ensures) (c .before .before .if1 .left)
+
+-- what each test has said where the code goes on, and the place before it
+abbrev sized : tie.Else2 → tie.After-sizes
+sized c = c .before .before
+
+fits : (c : tie.Else2) → sizesFit (sizes (sized c)) ≡ true
+fits c = sym (c .before .sizes-fit .ensures) ∙ not-false _ (c .if2 .left)
+
+abbrev fitting : tie.Else3 → tie.Else2
+fitting c = c .before .before
+
+exact : (c : tie.Else3) → length (row (sized (fitting c))) ≡ roomLength (sizes (sized (fitting c)))
+exact c = c .if3 .left ∙ c .before .room-length .ensures
+
+abbrev long : tie.After-only-legal → tie.Else3
+long c = c .before .before .before
+
+off
+    : (c : tie.After-only-legal)
+    → c .only-legal .result ≡ within (offOf (row (sized (fitting (long c))))) (legalDrives (sizes (sized (fitting (long c)))))
+off c =
+    c .only-legal .ensures
+    ∙ ap (λ (k : Masks). within (offOf (row (sized (fitting (long c))))) (k .drives)) (c .before .before .masks-of .ensures)
+
 returns : tie.Need-returns
-returns c =
-    let at-args = c .before .before .args in
-    let at-if1 = c .if1 in
-    sym (short-row (at-args .limits .now) (at-args .room .now) (at-if1 .taken))
+returns c = sym (short-row (c .before .before .args .room .now) (c .if1 .taken))
+
+limits-requires : tie.Need-limits-requires
+limits-requires c κs = search needs
 
 sizes-requires : tie.Need-sizes-requires
 sizes-requires c κs = search needs
@@ -27,38 +69,22 @@ sizes-fit-requires c κs = search needs
 
 returns-2 : tie.Need-returns-2
 returns-2 c =
-    let at-args = c .before .before .before .before .before .args in
-    let at-sizes = c .before .before .sizes in
-    let at-if1 = c .before .before .before .if1 in
-    let at-sizes-fit = c .before .sizes-fit in
-    let at-if2 = c .if2 in
-    sym (row-of (at-args .limits .now) (at-args .room .now) (at-sizes .result) (at-sizes .ensures) (at-if1 .left)
-    ∙ no-sizes (at-args .limits .now) (at-sizes .result) (at-args .room .now) (sym (at-sizes-fit .ensures) ∙ not-true _ (at-if2 .taken)))
+    let s = c .before .before in
+    sym (claimed s ∙ no-sizes (limits s) (sizes s) (row s) (sym (c .before .sizes-fit .ensures) ∙ not-true _ (c .if2 .taken)))
 
 room-length-requires : tie.Need-room-length-requires
-room-length-requires c κs =
-    let at-sizes = c .before .before .sizes in
-    let at-sizes-fit = c .before .sizes-fit in
-    let at-if2 = c .if2 in
-    fit-of (at-sizes .result) (sym (at-sizes-fit .ensures) ∙ not-false _ (at-if2 .left))
+room-length-requires c κs = fit-of (sizes (sized c)) (fits c)
 
 returns-3 : tie.Need-returns-3
 returns-3 c =
-    let at-args = c .before .before .before .before .before .before .before .args in
-    let at-sizes = c .before .before .before .before .sizes in
-    let at-if1 = c .before .before .before .before .before .if1 in
-    let at-room-length = c .before .room-length in
-    let at-if3 = c .if3 in
-    sym (row-of (at-args .limits .now) (at-args .room .now) (at-sizes .result) (at-sizes .ensures) (at-if1 .left)
-    ∙ no-length (at-args .limits .now) (at-sizes .result) (at-args .room .now)
-    (ap (λ (n : ℕ). eqb (length (at-args .room .now)) n) (sym (at-room-length .ensures)) ∙ ne-eqb _ _ (at-if3 .taken)))
+    let s = sized (c .before .before) in
+    sym
+    (claimed s
+    ∙ no-length (limits s) (sizes s) (row s)
+    (ap (λ (n : ℕ). eqb (length (row s)) n) (sym (c .before .room-length .ensures)) ∙ ne-eqb _ _ (c .if3 .taken)))
 
 masks-of-requires : tie.Need-masks-of-requires
-masks-of-requires c κs =
-    let at-sizes = c .before .before .before .before .sizes in
-    let at-sizes-fit = c .before .before .before .sizes-fit in
-    let at-if2 = c .before .before .if2 in
-    fit-of (at-sizes .result) (sym (at-sizes-fit .ensures) ∙ not-false _ (at-if2 .left))
+masks-of-requires c κs = fit-of (sizes (sized (fitting c))) (fits (fitting c))
 
 shared-slice-read-only-legal : tie.Need-shared-slice-read-only-legal
 shared-slice-read-only-legal c = search needs
@@ -68,51 +94,33 @@ only-legal-requires c κs = search needs
 
 returns-4 : tie.Need-returns-4
 returns-4 c =
-    let at-args = c .before .before .before .before .before .before .before .before .before .before .before .args in
-    let at-sizes = c .before .before .before .before .before .before .before .before .sizes in
-    let at-if1 = c .before .before .before .before .before .before .before .before .before .if1 in
-    let at-masks-of = c .before .before .before .masks-of in
-    let at-only-legal = c .before .only-legal in
-    let at-if4 = c .if4 in
-    sym (row-of (at-args .limits .now) (at-args .room .now) (at-sizes .result) (at-sizes .ensures) (at-if1 .left)
-    ∙ no-off (at-args .limits .now) (at-sizes .result) (at-args .room .now)
-    (ap (λ (k : Masks). within (offOf (at-args .room .now)) (k .drives)) (sym (at-masks-of .ensures)) ∙ sym (at-only-legal .ensures) ∙ not-true _ (at-if4 .taken)))
+    let s = sized (fitting (long (c .before))) in
+    sym (claimed s ∙ no-off (limits s) (sizes s) (row s) (sym (off (c .before)) ∙ not-true _ (c .if4 .taken)))
 
 slots-fit-requires : tie.Need-slots-fit-requires
 slots-fit-requires c κs =
-    let at-sizes = c .before .before .before .before .before .before .before .before .sizes in
-    let at-sizes-fit = c .before .before .before .before .before .before .before .sizes-fit in
-    let at-if2 = c .before .before .before .before .before .before .if2 in
-    let at-if3 = c .before .before .before .before .if3 in
-    let at-room-length = c .before .before .before .before .before .room-length in
-    let at-masks-of = c .before .before .before .masks-of in
-    (record { fit = fit-of (at-sizes .result) (sym (at-sizes-fit .ensures) ∙ not-false _ (at-if2 .left)); exact = at-if3 .left ∙ at-room-length .ensures }, at-masks-of .ensures)
+    let l = long (c .before .before) in
+    let fit = fit-of (sizes (sized (fitting l))) (fits (fitting l)) in
+    (record { fit = fit; exact = exact l }, c .before .before .before .before .masks-of .ensures)
 
 returns-5 : tie.Need-returns-5
 returns-5 c =
-    let at-args = c .before .before .before .before .before .before .before .before .before .before .before .before .args in
-    let at-sizes = c .before .before .before .before .before .before .before .before .before .sizes in
-    let at-slots-fit = c .slots-fit in
-    let at-sizes-fit = c .before .before .before .before .before .before .before .before .sizes-fit in
-    let at-if2 = c .before .before .before .before .before .before .before .if2 in
-    let at-if3 = c .before .before .before .before .before .if3 in
-    let at-room-length = c .before .before .before .before .before .before .room-length in
-    let at-masks-of = c .before .before .before .before .masks-of in
-    let at-only-legal = c .before .before .only-legal in
-    let at-if4 = c .before .if4 in
-    let at-if1 = c .before .before .before .before .before .before .before .before .before .before .if1 in
-    then-slots (at-args .limits .now) (at-sizes .result) (at-args .room .now) (at-slots-fit .result)
-    (sym (at-sizes-fit .ensures) ∙ not-false _ (at-if2 .left))
-    (eq-eqb _ _ (at-if3 .left ∙ at-room-length .ensures))
-    (ap (λ (k : Masks). within (offOf (at-args .room .now)) (k .drives)) (sym (at-masks-of .ensures)) ∙ sym (at-only-legal .ensures) ∙ not-false _ (at-if4 .left))
-    (at-slots-fit .ensures)
-    ∙ sym (row-of (at-args .limits .now) (at-args .room .now) (at-sizes .result) (at-sizes .ensures) (at-if1 .left))
+    let legal = c .before .before .before in
+    let l = long legal in
+    let s = sized (fitting l) in
+    then-slots (limits s) (sizes s) (row s) (c .slots-fit .result)
+    (fits (fitting l))
+    (eq-eqb _ _ (exact l))
+    (sym (off legal) ∙ not-false _ (c .before .before .if4 .left))
+    (c .slots-fit .ensures)
+    ∙ sym (claimed s)
 
 pub in-range-spec : {M : Type 1} → statement M
 in-range-spec =
     tie.close
     (tie.spec
     returns
+    limits-requires
     sizes-requires
     sizes-fit-requires
     returns-2
