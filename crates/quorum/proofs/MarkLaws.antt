@@ -1,7 +1,7 @@
 -- Laws of a mark cell: what stands after a mark is set or removed, and how large the cell is then.
 use Prim.Native.Nat.{ℕ, suc, _+_, _-_, _*_, _/_, _%_, _^_, _<_, _≤_, max}
 use mathlib.Core.Path.{_≡_, refl, _∙_, sym, ap}
-use mathlib.Core.Bool.{Bool, true, false, not, _&&_, true≢false}
+use mathlib.Core.Bool.{Bool, true, false, not, _&&_, cond, true≢false}
 use native.Mathlib.Omega.{arith}
 use native.Mathlib.Decide.{decLt}
 use native.Mathlib.Nat.{add-div-right, add-mul-div-right, div-eq-of-lt, pow-suc, mod-lt, div-add-mod'}
@@ -9,7 +9,7 @@ use lib.Dec.{eqb, ltb}
 use lib.Pow.{pow-pos, pow-add, shr-shr}
 use lib.Bits.{bitOr, or-block, or-step, or-zero-r, or-lt}
 use borrow.Author.Tests.{eq-eqb, ne-eqb, eqb-true, eqb-false, lt-ltb, le-ltb}
-use Rattle.quorum.specs.Marks.{stands, marked, unmarked, pick}
+use Rattle.quorum.specs.Marks.{stands, marked, unmarked}
 use Rattle.lemmas.proofs.Tests.{by-test}
 
 -- the digit behind the test
@@ -115,7 +115,7 @@ pub marked-old : (m i : ℕ) → stands m i ≡ true → marked m i ≡ m
 unfolding marked
 marked-old m i e = go (ltb i 32)
   where
-    go : (b : Bool) → pick (b && not (stands m i)) (m + 2 ^ i) m ≡ m
+    go : (b : Bool) → cond (b && not (stands m i)) (m + 2 ^ i) m ≡ m
     go true = simp e
     go false = refl
 

@@ -1,7 +1,7 @@
 -- Laws of sets of drives. Safety rests on one of them: two majorities share a drive.
 use Prim.Native.Nat.{ℕ, zero, suc, _+_, _*_, _/_, _%_, _^_, _<_, _≤_}
 use mathlib.Core.Path.{_≡_, refl, _∙_, sym, ap, ap₂}
-use mathlib.Core.Bool.{Bool, true, false, _&&_, true≢false}
+use mathlib.Core.Bool.{Bool, true, false, _&&_, cond, true≢false}
 use native.Mathlib.Omega.{arith}
 use native.Mathlib.Nat.{pow-suc, mod-lt}
 use native.Mathlib.Numerals.{add-one}
@@ -9,7 +9,7 @@ use lib.Dec.{ltb}
 use lib.Count.{ones, onesIn, ones-cat}
 use lib.Pow.{pow-pos, mod-pow-add}
 use borrow.Author.Tests.{lt-ltb, ltb-true}
-use Rattle.quorum.specs.Marks.{stands, marked, pick}
+use Rattle.quorum.specs.Marks.{stands, marked}
 use Rattle.quorum.specs.Sets.{allBelow, size, gathered, majority}
 use Rattle.lemmas.proofs.Tests.{by-test, and-left, and-right, and-intro}
 use Rattle.quorum.proofs.MarkLaws.{digit-of, no-digit, stands-small, add-same, add-other, marked-new}
@@ -25,12 +25,12 @@ pub size-zero : (f : ℕ → Bool) → size 0 f ≡ 0
 unfolding size
 size-zero f = refl
 
-pub size-suc : (n : ℕ) (f : ℕ → Bool) → size (suc n) f ≡ size n f + pick (f n) 1 0
+pub size-suc : (n : ℕ) (f : ℕ → Bool) → size (suc n) f ≡ size n f + cond (f n) 1 0
 unfolding size
 size-suc n f = refl
 
 -- more drives, at least as many
-one-more : (a b : Bool) → (a ≡ true → b ≡ true) → pick a 1 0 ≤ pick b 1 0
+one-more : (a b : Bool) → (a ≡ true → b ≡ true) → cond a 1 0 ≤ cond b 1 0
 one-more false b h = omega arith
 one-more true b h = rw (h refl) (omega arith)
 
@@ -38,11 +38,11 @@ pub size-more : (n : ℕ) (f g : ℕ → Bool) → ((d : ℕ) → d < n → f d 
 size-more zero f g h = omega (arith, size-zero f, size-zero g)
 size-more (suc n) f g h =
     let rest : size n f ≤ size n g = size-more n f g (λ d l. h d (omega arith)) in
-    let last : pick (f n) 1 0 ≤ pick (g n) 1 0 = one-more (f n) (g n) (h n (omega arith)) in
+    let last : cond (f n) 1 0 ≤ cond (g n) 1 0 = one-more (f n) (g n) (h n (omega arith)) in
     omega (arith, size-suc n f, size-suc n g)
 
 -- the drives of two sets, counted twice where they are in both
-both-once : (a b : Bool) → pick a 1 0 + pick b 1 0 ≤ 1 + pick (a && b) 1 0
+both-once : (a b : Bool) → cond a 1 0 + cond b 1 0 ≤ 1 + cond (a && b) 1 0
 both-once true true = omega arith
 both-once true false = omega arith
 both-once false true = omega arith
@@ -65,8 +65,8 @@ member (suc n) f h =
     by-test (f n)
     (λ e. record { drive = n; within = omega arith; holds = e })
     (λ e.
-    let none : pick (f n) 1 0 ≡ 0 = ap (λ (b : Bool). pick b 1 0) e in
-    let m : Member n f = member n f (omega (arith, size-suc n f)) in
+    let none : size (suc n) f ≡ size n f + 0 = size-suc n f ∙ ap (λ (b : Bool). size n f + cond b 1 0) e in
+    let m : Member n f = member n f (omega arith) in
     record { drive = m .drive; within = omega arith; holds = m .holds })
 
 -- the bound that a majority has
@@ -104,12 +104,12 @@ unfolding majority
 majority-same n f g h = ap (λ (k : ℕ). ltb n (2 * k)) (size-same n f g h)
 
 -- "counted as the ones in a mark cell": the ones below bit n are the drives whose bit stands
-one-digit : (m n : ℕ) → ones (m / 2 ^ n % 2) ≡ pick (stands m n) 1 0
+one-digit : (m n : ℕ) → ones (m / 2 ^ n % 2) ≡ cond (stands m n) 1 0
 unfolding ones onesIn
 one-digit m n =
     by-test (stands m n)
-    (λ e. ap ones (digit-of m n e) ∙ ap (λ (b : Bool). pick b 1 0) (sym e))
-    (λ e. ap ones (no-digit m n e) ∙ ap (λ (b : Bool). pick b 1 0) (sym e))
+    (λ e. ap ones (digit-of m n e) ∙ ap (λ (b : Bool). cond b 1 0) (sym e))
+    (λ e. ap ones (no-digit m n e) ∙ ap (λ (b : Bool). cond b 1 0) (sym e))
 
 pub ones-size : (n m : ℕ) → ones (m % 2 ^ n) ≡ size n (stands m)
 unfolding ones onesIn
@@ -120,7 +120,7 @@ ones-size (suc n) m =
     ∙ ap ones (mod-pow-add m 1 n)
     ∙ ones-cat n (m / 2 ^ n % 2) (m % 2 ^ n) (mod-lt m (pow-pos n))
     ∙ ap₂ _+_ (one-digit m n) (ones-size n m)
-    ∙ native.Mathlib.Nat.add-comm (pick (stands m n) 1 0) (size n (stands m))
+    ∙ native.Mathlib.Nat.add-comm (cond (stands m n) 1 0) (size n (stands m))
     ∙ sym (size-suc n (stands m))
 
 -- the five laws of allBelow
@@ -164,7 +164,7 @@ pub gathered-zero : (f : ℕ → Bool) → gathered 0 f ≡ 0
 unfolding gathered
 gathered-zero f = refl
 
-pub gathered-suc : (n : ℕ) (f : ℕ → Bool) → gathered (suc n) f ≡ gathered n f + pick (f n) (2 ^ n) 0
+pub gathered-suc : (n : ℕ) (f : ℕ → Bool) → gathered (suc n) f ≡ gathered n f + cond (f n) (2 ^ n) 0
 unfolding gathered
 gathered-suc n f = refl
 
@@ -172,10 +172,10 @@ pub gathered-below : (n : ℕ) (f : ℕ → Bool) → gathered n f < 2 ^ n
 gathered-below zero f = omega (arith, gathered-zero f)
 gathered-below (suc n) f =
     let rest : gathered n f < 2 ^ n = gathered-below n f in
-    let last : pick (f n) (2 ^ n) 0 ≤ 2 ^ n = at-most (f n) in
+    let last : cond (f n) (2 ^ n) 0 ≤ 2 ^ n = at-most (f n) in
     omega (arith, gathered-suc n f, pow-suc 2 n)
   where
-    at-most : (b : Bool) → pick b (2 ^ n) 0 ≤ 2 ^ n
+    at-most : (b : Bool) → cond b (2 ^ n) 0 ≤ 2 ^ n
     at-most true = omega arith
     at-most false = omega arith
 
@@ -183,7 +183,7 @@ gathered-below (suc n) f =
 pub gathered-more : (n : ℕ) (f : ℕ → Bool) → n < 32 → f n ≡ true → marked (gathered n f) n ≡ gathered (n + 1) f
 gathered-more n f h e =
     marked-new (gathered n f) n h (stands-small (gathered n f) n (gathered-below n f))
-    ∙ ap (λ (b : Bool). gathered n f + pick b (2 ^ n) 0) (sym e)
+    ∙ ap (λ (b : Bool). gathered n f + cond b (2 ^ n) 0) (sym e)
     ∙ sym (gathered-suc n f)
     ∙ ap (λ (k : ℕ). gathered k f) (sym (add-one n))
 
@@ -191,7 +191,7 @@ pub gathered-past : (n : ℕ) (f : ℕ → Bool) → f n ≡ false → gathered 
 gathered-past n f e =
     let z : gathered n f + 0 ≡ gathered n f = omega arith in
     sym z
-    ∙ ap (λ (b : Bool). gathered n f + pick b (2 ^ n) 0) (sym e)
+    ∙ ap (λ (b : Bool). gathered n f + cond b (2 ^ n) 0) (sym e)
     ∙ sym (gathered-suc n f)
     ∙ ap (λ (k : ℕ). gathered k f) (sym (add-one n))
 
@@ -202,8 +202,8 @@ stands-gathered (suc n) f d h = go (native.Mathlib.Decide.decLt d n) (stands-gat
     new : stands (gathered n f) n ≡ false
     new = stands-small (gathered n f) n (gathered-below n f)
 
-    after : (b : Bool) → f n ≡ b → gathered (suc n) f ≡ gathered n f + pick b (2 ^ n) 0
-    after b e = gathered-suc n f ∙ ap (λ (c : Bool). gathered n f + pick c (2 ^ n) 0) e
+    after : (b : Bool) → f n ≡ b → gathered (suc n) f ≡ gathered n f + cond b (2 ^ n) 0
+    after b e = gathered-suc n f ∙ ap (λ (c : Bool). gathered n f + cond c (2 ^ n) 0) e
 
     zeroed : gathered n f + 0 ≡ gathered n f
     zeroed = omega arith

@@ -1,8 +1,8 @@
 -- Sets of drives, their size, and majority (01, "The room in memory").
 use Prim.Native.Nat.{ℕ, zero, suc, _+_, _*_, _^_}
-use mathlib.Core.Bool.{Bool, true, not, _&&_, _||_}
+use mathlib.Core.Bool.{Bool, true, not, _&&_, _||_, cond}
 use lib.Dec.{ltb}
-use Rattle.quorum.specs.Marks.{stands, pick}
+use Rattle.quorum.specs.Marks.{stands}
 
 -- f holds of every number below n
 unfoldable pub allBelow : ℕ → (ℕ → Bool) → Bool
@@ -12,12 +12,12 @@ allBelow (suc n) f = allBelow n f && f n
 -- how many drives below n the set has
 unfoldable pub size : ℕ → (ℕ → Bool) → ℕ
 size zero set = 0
-size (suc n) set = size n set + pick (set n) 1 0
+size (suc n) set = size n set + cond (set n) 1 0
 
 -- the mark cell in which exactly the bits of the set stand, below n
 unfoldable pub gathered : ℕ → (ℕ → Bool) → ℕ
 gathered zero set = 0
-gathered (suc n) set = gathered n set + pick (set n) (2 ^ n) 0
+gathered (suc n) set = gathered n set + cond (set n) (2 ^ n) 0
 
 -- "A majority is a set of drives with twice its number above D"
 unfoldable pub majority : ℕ → (ℕ → Bool) → Bool
