@@ -13,7 +13,7 @@ use Rattle.lemmas.proofs.Tests.{by-test, same-test}
 use Rattle.quorum.specs.Marks.{stands, marked, unmarked}
 use Rattle.quorum.specs.Sets.{within}
 use Rattle.quorum.proofs.MarkLaws.{digit-of, no-digit, of-digit, of-no-digit, stands-zero, stands-marked-other, stands-unmarked-same, stands-unmarked-other}
-use Rattle.quorum.proofs.SetLaws.{all-at, all-intro}
+use Rattle.quorum.proofs.AllBelow.{all-at, all-intro}
 
 digit-same : (a b i : ℕ) → stands a i ≡ stands b i → a / 2 ^ i % 2 ≡ b / 2 ^ i % 2
 digit-same a b i e =

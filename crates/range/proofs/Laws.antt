@@ -9,7 +9,7 @@ use lib.Dec.{eqb, leb}
 use borrow.Author.Tests.{le-leb, lt-leb, eqb-true, eq-eqb}
 use Rattle.lemmas.proofs.Tests.{and-left, and-right, and-intro, goes-on}
 use Rattle.quorum.specs.Sets.{allBelow, within}
-use Rattle.quorum.proofs.SetLaws.{all-at, all-intro}
+use Rattle.quorum.proofs.AllBelow.{all-at, all-intro}
 use Rattle.state.specs.declared.Sizes.{Sizes}
 use Rattle.layout.specs.Places.{base, sizesFit, roomLength, nthBlockAt, blockAt, Row}
 use Rattle.layout.specs.Cells.{sizesOf, offOf, limitsOf, serverOf, blockOf, blockIn}

@@ -6,7 +6,7 @@ use native.Mathlib.Omega.{arith}
 use lib.Dec.{eqb, ltb}
 use borrow.Author.Tests.{eqb-true, ltb-true}
 use Rattle.quorum.specs.Sets.{allBelow, gathered}
-use Rattle.quorum.proofs.SetLaws.{all-at}
+use Rattle.quorum.proofs.AllBelow.{all-at}
 use Rattle.state.specs.declared.Sizes.{Sizes}
 use Rattle.layout.specs.Places.{Fit}
 use Rattle.range.specs.Range.{legalDrives, legalReads}

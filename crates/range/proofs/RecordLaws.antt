@@ -11,7 +11,7 @@ use Rattle.state.specs.Block.{limit, ballotFits}
 use Rattle.command.specs.Command.{isCommand}
 use Rattle.quorum.specs.Marks.{stands}
 use Rattle.quorum.specs.Sets.{within}
-use Rattle.quorum.proofs.SetLaws.{stands-gathered}
+use Rattle.quorum.proofs.Gathered.{stands-gathered}
 use Rattle.state.specs.declared.Block.{Block}
 use Rattle.state.specs.declared.Server.{Server}
 use Rattle.state.specs.declared.Sizes.{Sizes}

@@ -12,7 +12,7 @@ use Rattle.command.specs.Command.{kindOf, pieceOf, hoardOf, cabinetLimits, isCo
 use Rattle.ballot.specs.Ballot.{owned}
 use Rattle.quorum.specs.Marks.{stands}
 use Rattle.quorum.specs.Sets.{allBelow, majority}
-use Rattle.quorum.proofs.SetLaws.{all-at}
+use Rattle.quorum.proofs.AllBelow.{all-at}
 use Rattle.state.specs.declared.Answer.the-variants.{Done, Refused}
 use Rattle.state.specs.declared.Sizes.{Sizes}
 use Rattle.layout.specs.Places.{sizesFit, roomLength}

@@ -9,7 +9,7 @@ use Rattle.quorum.specs.Sets.{majority}
 use Rattle.state.specs.declared.Server.{Server}
 use Rattle.synod.specs.Rules.{completeOn, othersRead}
 use Rattle.synod.specs.Slot.{Config}
-use Rattle.quorum.proofs.SetLaws.{all-at}
+use Rattle.quorum.proofs.AllBelow.{all-at}
 use Rattle.lemmas.proofs.Tests.{and-left, and-right}
 use Rattle.synod.proofs.Logic.{or-either}
 use Rattle.synod.proofs.Marks.{wrote, saw}

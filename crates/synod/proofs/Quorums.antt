@@ -7,7 +7,7 @@ use mathlib.Core.Path.{_≡_, refl, subst}
 use mathlib.Core.Logic.{_⊎_, inl, inr}
 use native.Mathlib.Decide.{ℕ-discrete}
 use Rattle.quorum.specs.Sets.{majority}
-use Rattle.quorum.proofs.SetLaws.{Shared, share}
+use Rattle.quorum.proofs.Share.{Shared, share}
 use Rattle.synod.proofs.Logic.{clash}
 
 pub record Quorum (n : ℕ) (P : ℕ → Type 0) : Type 0 where

@@ -9,7 +9,7 @@ use lib.Count.{ones, ones-le}
 use lib.Dec.{ltb}
 use lib.Pow.{pow-mono, pow-pos}
 use Rattle.quorum.specs.Sets.{majority}
-use Rattle.quorum.proofs.SetLaws.{ones-size}
+use Rattle.quorum.proofs.Sizes.{ones-size}
 use Rattle.quorum.proofs.Shift.{one-shifted}
 use Rattle.quorum.proofs.is_majority.Statement.{statement}
 use Rattle.quorum.proofs.is_majority.Tie as tie

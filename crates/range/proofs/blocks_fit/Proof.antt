@@ -9,7 +9,7 @@ use mathlib.Core.Bool.{Bool, true}
 use mathlib.Core.List.{List}
 use borrow.Author.Tests.{not-true, not-false}
 use Rattle.quorum.specs.Sets.{allBelow}
-use Rattle.quorum.proofs.SetLaws.{all-none, all-more, all-fails}
+use Rattle.quorum.proofs.AllBelow.{all-none, all-more, all-fails}
 use Rattle.layout.specs.Places.{blockLength}
 use Rattle.layout.specs.Cells.{blockIn}
 use Rattle.range.specs.Range.{blockFits}

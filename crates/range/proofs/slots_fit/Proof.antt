@@ -10,7 +10,7 @@ use mathlib.Core.List.{List}
 use borrow.Author.Tests.{not-true, not-false}
 use Rattle.lemmas.proofs.Tests.{and-intro, none-left, none-right}
 use Rattle.quorum.specs.Sets.{allBelow}
-use Rattle.quorum.proofs.SetLaws.{all-none, all-more, all-fails}
+use Rattle.quorum.proofs.AllBelow.{all-none, all-more, all-fails}
 use Rattle.state.specs.declared.Sizes.{Sizes}
 use Rattle.layout.specs.Places.{base, serverLength, blockLength, slotLength, slotAt, serverAt, nthBlockAt}
 use Rattle.layout.specs.Cells.{serverIn, serverOf, blockIn}

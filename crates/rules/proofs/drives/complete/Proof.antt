@@ -9,7 +9,7 @@ use mathlib.Core.Bool.{_&&_}
 use mathlib.Core.Logic.{⊎-elim}
 use Rattle.quorum.specs.Marks.{marked}
 use Rattle.quorum.specs.Sets.{gathered}
-use Rattle.quorum.proofs.SetLaws.{gathered-zero, gathered-more, gathered-past}
+use Rattle.quorum.proofs.Gathered.{gathered-zero, gathered-more, gathered-past}
 use Rattle.synod.specs.Rules.{completeOn}
 
 abbrev Inv-loop : tie.InvT-loop

@@ -8,7 +8,7 @@ use mathlib.Core.Path.{_≡_, _∙_, sym, ap}
 use mathlib.Core.Bool.{Bool, true, _||_}
 use lib.Dec.{eqb}
 use borrow.Author.Tests.{not-true, not-false}
-use Rattle.quorum.proofs.SetLaws.{all-none, all-more, all-fails}
+use Rattle.quorum.proofs.AllBelow.{all-none, all-more, all-fails}
 use Rattle.synod.specs.Rules.{othersRead, otherRead}
 
 abbrev Inv-loop : tie.InvT-loop

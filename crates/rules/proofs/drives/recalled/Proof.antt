@@ -8,7 +8,7 @@ use mathlib.Core.Path.{_≡_, _∙_, sym, ap}
 use mathlib.Core.Logic.{⊎-elim}
 use Rattle.quorum.specs.Marks.{marked}
 use Rattle.quorum.specs.Sets.{gathered}
-use Rattle.quorum.proofs.SetLaws.{gathered-zero, gathered-more, gathered-past}
+use Rattle.quorum.proofs.Gathered.{gathered-zero, gathered-more, gathered-past}
 use Rattle.synod.specs.Rules.{recalledOn}
 
 abbrev Inv-loop : tie.InvT-loop

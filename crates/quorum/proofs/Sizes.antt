@@ -1,0 +1,70 @@
+-- How many drives a set has. The count of ones is that number, and a majority looks at nothing else.
+use Prim.Native.Nat.{ℕ, zero, suc, _+_, _*_, _/_, _%_, _^_, _<_, _≤_}
+use mathlib.Core.Path.{_≡_, refl, _∙_, sym, ap, ap₂}
+use mathlib.Core.Bool.{Bool, true, false, cond}
+use native.Mathlib.Omega.{arith}
+use native.Mathlib.Nat.{mod-lt}
+use lib.Dec.{ltb}
+use lib.Count.{ones, onesIn, ones-cat}
+use lib.Pow.{pow-pos, mod-pow-add}
+use borrow.Author.Tests.{lt-ltb, ltb-true}
+use Rattle.quorum.specs.Marks.{stands}
+use Rattle.quorum.specs.Sets.{size, majority}
+use Rattle.lemmas.proofs.Tests.{by-test}
+use Rattle.quorum.proofs.MarkLaws.{digit-of, no-digit}
+
+pub size-zero : (f : ℕ → Bool) → size 0 f ≡ 0
+unfolding size
+size-zero f = refl
+
+pub size-suc : (n : ℕ) (f : ℕ → Bool) → size (suc n) f ≡ size n f + cond (f n) 1 0
+unfolding size
+size-suc n f = refl
+
+-- more drives, at least as many
+one-more : (a b : Bool) → (a ≡ true → b ≡ true) → cond a 1 0 ≤ cond b 1 0
+one-more false b h = omega arith
+one-more true b h = rw (h refl) (omega arith)
+
+pub size-more : (n : ℕ) (f g : ℕ → Bool) → ((d : ℕ) → d < n → f d ≡ true → g d ≡ true) → size n f ≤ size n g
+size-more zero f g h = omega (arith, size-zero f, size-zero g)
+size-more (suc n) f g h =
+    let rest : size n f ≤ size n g = size-more n f g (λ d l. h d (omega arith)) in
+    let last : cond (f n) 1 0 ≤ cond (g n) 1 0 = one-more (f n) (g n) (h n (omega arith)) in
+    omega (arith, size-suc n f, size-suc n g)
+
+-- a set with every drive of a majority is one
+pub majority-more : (n : ℕ) (f g : ℕ → Bool) → ((d : ℕ) → d < n → f d ≡ true → g d ≡ true) → majority n f ≡ true → majority n g ≡ true
+unfolding majority
+majority-more n f g h e =
+    lt-ltb n (2 * size n g) (omega (arith, size-more n f g h, ltb-true n (2 * size n f) e))
+
+-- majority looks at the drives below n alone
+pub size-same : (n : ℕ) (f g : ℕ → Bool) → ((d : ℕ) → d < n → f d ≡ g d) → size n f ≡ size n g
+size-same n f g h =
+    omega
+    (arith, size-more n f g (λ d l e. sym (h d l) ∙ e), size-more n g f (λ d l e. h d l ∙ e))
+
+pub majority-same : (n : ℕ) (f g : ℕ → Bool) → ((d : ℕ) → d < n → f d ≡ g d) → majority n f ≡ majority n g
+unfolding majority
+majority-same n f g h = ap (λ (k : ℕ). ltb n (2 * k)) (size-same n f g h)
+
+-- "counted as the ones in a mark cell": the ones below bit n are the drives whose bit stands
+one-digit : (m n : ℕ) → ones (m / 2 ^ n % 2) ≡ cond (stands m n) 1 0
+unfolding ones onesIn
+one-digit m n =
+    by-test (stands m n)
+    (λ e. ap ones (digit-of m n e) ∙ ap (λ (b : Bool). cond b 1 0) (sym e))
+    (λ e. ap ones (no-digit m n e) ∙ ap (λ (b : Bool). cond b 1 0) (sym e))
+
+pub ones-size : (n m : ℕ) → ones (m % 2 ^ n) ≡ size n (stands m)
+unfolding ones onesIn
+ones-size zero m = ap ones (native.Mathlib.Nat.mod-one m) ∙ sym (size-zero (stands m))
+ones-size (suc n) m =
+    let e : suc n ≡ 1 + n = omega arith in
+    ap (λ (k : ℕ). ones (m % 2 ^ k)) e
+    ∙ ap ones (mod-pow-add m 1 n)
+    ∙ ones-cat n (m / 2 ^ n % 2) (m % 2 ^ n) (mod-lt m (pow-pos n))
+    ∙ ap₂ _+_ (one-digit m n) (ones-size n m)
+    ∙ native.Mathlib.Nat.add-comm (cond (stands m n) 1 0) (size n (stands m))
+    ∙ sym (size-suc n (stands m))
