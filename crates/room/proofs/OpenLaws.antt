@@ -1,19 +1,22 @@
--- Laws of open: its two refusals in their order, the lowest that applies, and the room that it makes.
+-- Laws of open: its refusals in their order, the lowest that applies, and the room that it makes.
 use Prim.Native.Nat.{ℕ, suc, _-_, _≤_}
-use mathlib.Core.Path.{_≡_, refl, _∙_, sym, ap, subst}
-use mathlib.Core.Bool.{true, false, true≢false}
-use mathlib.Core.List.{List, _∷_}
+use mathlib.Core.Path.{_≡_, refl, _∙_, sym, ap}
+use mathlib.Core.Bool.{true, false}
+use mathlib.Core.List.{List, [], _∷_}
 use native.Mathlib.Omega.{arith}
 use lib.ListN.{length, set, replicate}
 use lib.Dec.{eqb}
-use borrow.Author.Tests.{eqb-true, eqb-false}
+use borrow.Author.Tests.{eqb-true}
 use Rattle.lemmas.proofs.Tests.{by-test}
+use Rattle.checks.specs.Checks.{must}
+use Rattle.checks.specs.Refusals.{refusalsOf, numbersOf, lowest}
+use Rattle.checks.proofs.LowestLaws.{first-applies}
 use Rattle.state.specs.declared.Sizes.{Sizes}
 use Rattle.layout.specs.Places.{sizesFit, roomLength, Fit}
 use Rattle.layout.proofs.PlaceLaws.{base-room}
 use Rattle.room.specs.declared.opening.Opening.{Opening}
 use Rattle.room.specs.declared.opening.Opening.the-variants.{Opened, Refused}
-use Rattle.room.specs.Open.{openRefusal, opening, openedBy, opened, openedCells}
+use Rattle.room.specs.Open.{openRefusal, openChecks, opening, openedBy, opened, openedCells}
 
 -- what open answers, and what becomes of the row
 pub record Opens (z : Sizes) (cells : List ℕ) (answer : Opening) (after : List ℕ) : Type 0 where
@@ -26,15 +29,15 @@ opens z cells answer e = record { answers = sym e; leaves = ap (openedBy z cells
 
 module _ (z : Sizes) (cells : List ℕ) where
   pub opens-1 : sizesFit z ≡ false → Opens z cells (Refused 1) cells
-  unfolding opening
+  unfolding opening openChecks must
   opens-1 a = opens z cells (Refused 1) (simp a)
 
   pub opens-2 : sizesFit z ≡ true → eqb (length cells) (roomLength z) ≡ false → Opens z cells (Refused 2) cells
-  unfolding opening
+  unfolding opening openChecks must
   opens-2 a b = opens z cells (Refused 2) (simp (a, b))
 
   pub opens-room : sizesFit z ≡ true → eqb (length cells) (roomLength z) ≡ true → Opens z cells Opened (openedCells z)
-  unfolding opening
+  unfolding opening openChecks must
   opens-room a b = opens z cells Opened (simp (a, b))
 
   -- what open says where it is not refused
@@ -43,69 +46,36 @@ module _ (z : Sizes) (cells : List ℕ) where
     pub exact : length cells ≡ roomLength z
     pub room : opened z cells ≡ openedCells z
 
-  -- what applies against the call, with its number
-  pub data Fault : ℕ → Type 0 where
-    unfit : sizesFit z ≡ false → Fault 1
-    not-exact : (length cells ≡ roomLength z → ⊥) → Fault 2
-
-  -- the number n applies, no lower one does, and the row is left as it was
-  pub record Lowest (n : ℕ) : Type 0 where
-    pub fault : Fault n
-    pub lowest : (m : ℕ) → Fault m → n ≤ m
-    pub row : opened z cells ≡ cells
-
-  -- an answer by its number
-  record Says (n : ℕ) : Type 0 where
-    accepted : n ≡ 0 → Accepted
-    refused : (n ≡ 0 → ⊥) → Lowest n
-
-  is-unfit : sizesFit z ≡ false → Says 1
-  is-unfit a =
-      record {
-        accepted = λ e. absurd (omega arith);
-        refused = λ e. record { fault = unfit a; lowest = lowest; row = sym (opens-1 a .leaves) };
-      }
-    where
-      lowest : (m : ℕ) → Fault m → 1 ≤ m
-      lowest _ (unfit k) = omega arith
-      lowest _ (not-exact k) = omega arith
-
-  is-not-exact : sizesFit z ≡ true → eqb (length cells) (roomLength z) ≡ false → Says 2
-  is-not-exact a b =
-      record {
-        accepted = λ e. absurd (omega arith);
-        refused =
-            λ e.
-            record { fault = not-exact (eqb-false (length cells) (roomLength z) b); lowest = lowest; row = sym (opens-2 a b .leaves) };
-      }
-    where
-      lowest : (m : ℕ) → Fault m → 2 ≤ m
-      lowest _ (unfit k) = absurd (true≢false (sym a ∙ k))
-      lowest _ (not-exact k) = omega arith
-
-  is-room : sizesFit z ≡ true → eqb (length cells) (roomLength z) ≡ true → Says 0
-  is-room a b =
-      record {
-        accepted =
-            λ e. record { fits = a; exact = eqb-true (length cells) (roomLength z) b; room = sym (opens-room a b .leaves) };
-        refused = λ e. absurd (e refl);
-      }
-
-  says : Says (openRefusal (opening z cells))
-  says =
+  pub accepted : openRefusal (opening z cells) ≡ 0 → Accepted
+  accepted e =
       by-test (sizesFit z)
       (λ a.
       by-test (eqb (length cells) (roomLength z))
-      (λ b. subst (λ (x : Opening). Says (openRefusal x)) (opens-room a b .answers) (is-room a b))
-      (λ b. subst (λ (x : Opening). Says (openRefusal x)) (opens-2 a b .answers) (is-not-exact a b)))
-      (λ a. subst (λ (x : Opening). Says (openRefusal x)) (opens-1 a .answers) (is-unfit a))
+      (λ b. record { fits = a; exact = eqb-true (length cells) (roomLength z) b; room = sym (opens-room a b .leaves) })
+      (λ b. absurd (refuses 2 (opens-2 a b .answers) (omega arith))))
+      (λ a. absurd (refuses 1 (opens-1 a .answers) (omega arith)))
+    where
+      refuses : (n : ℕ) → Refused n ≡ opening z cells → 1 ≤ n → ⊥
+      refuses n k h = let z = ap openRefusal k ∙ e in omega arith
 
-  pub accepted : openRefusal (opening z cells) ≡ 0 → Accepted
-  accepted = says .accepted
+  -- the numbers of the checks, in their order
+  pub open-numbers : numbersOf (refusalsOf (openChecks z cells)) ≡ 1 ∷ 2 ∷ []
+  unfolding openChecks numbersOf
+  open-numbers = refl
 
-  -- a refusal is the lowest that applies, and leaves the row
-  pub refused : (openRefusal (opening z cells) ≡ 0 → ⊥) → Lowest (openRefusal (opening z cells))
-  refused = says .refused
+  -- the answer carries the lowest refusal that applies
+  pub open-lowest : openRefusal (opening z cells) ≡ lowest (refusalsOf (openChecks z cells))
+  unfolding opening openChecks
+  open-lowest = first-applies Refused openRefusal (λ n. refl) (openChecks z cells) refl
+
+  left : (o : Opening) → (openRefusal o ≡ 0 → ⊥) → openedBy z cells o ≡ cells
+  left Opened h = absurd (h refl)
+  left (Refused n) h = refl
+
+  -- a refusal leaves the row as it was
+  pub open-leaves : (openRefusal (opening z cells) ≡ 0 → ⊥) → opened z cells ≡ cells
+  unfolding opened
+  open-leaves h = left (opening z cells) h
 
 -- three cells stored in a row of zeros
 front-set : (n a b c : ℕ) → 3 ≤ n → set (set (set (replicate n 0) 0 a) 1 b) 2 c ≡ a ∷ b ∷ c ∷ replicate (n - 3) 0

@@ -13,7 +13,7 @@ use Rattle.synod.specs.Arguments.{placesFit}
 use Rattle.layout.specs.Places.{Row}
 use Rattle.layout.specs.Cells.{sizesOf}
 use Rattle.range.proofs.Laws.{range-says}
-use Rattle.room.specs.Judge.{limitsOf, recording, blocking, effectAt, ruleAt, ruled, judged}
+use Rattle.room.specs.Judge.{recording, blocking, effectAt, ruleAt, effectOf, judged}
 use Rattle.room.specs.Ready.{ReadyAt, Ready}
 use Rattle.synod.proofs.Places.{InView, in-view}
 use Rattle.room.proofs.Checks.{by-checks}
@@ -35,11 +35,11 @@ view-ready z r row (AtSlot p s Alone) off x a = record-ready z r s p x row (a .s
 view-ready z r row (AtServer p) off x a = (row, a)
 view-ready z r row (AtDrive d on) off x a = row
 
-ruled-ready : (z : Sizes) (r : List ℕ) → Row z r → (st : Step) → placesFit z st ≡ true → ReadyAt z r (ruled z r st)
-unfolding ruled
-ruled-ready z r row st e = view-ready z r row (viewOf st) _ (ruling (ruleAt z r st)) (in-view z st e)
+effect-ready : (z : Sizes) (r : List ℕ) → Row z r → (st : Step) → placesFit z st ≡ true → ReadyAt z r (effectOf z r st)
+unfolding effectOf
+effect-ready z r row st e = view-ready z r row (viewOf st) _ (ruling (ruleAt z r st)) (in-view z st e)
 
 pub judged-ready : (r : List ℕ) (st : Step) → Ready r (judged r st)
 judged-ready r st =
     by-checks r st (Ready r) (λ a. tt) (λ a b. tt) (λ a b c. tt)
-    (λ a b c. ruled-ready (sizesOf r) r (range-says (limitsOf r) r a .row) st b)
+    (λ a b c. effect-ready (sizesOf r) r (range-says r a .row) st b)

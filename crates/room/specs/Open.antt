@@ -1,9 +1,9 @@
--- Open (01, "The room in memory", "Who can bring which number"): 1 sizes, 2 length; old cells are not heeded.
+-- Open (SPEC, "The room in memory", "Who can bring which number"): 1 sizes, 2 length; old cells are not heeded.
 use Prim.Native.Nat.{ℕ, _-_}
-use mathlib.Core.Bool.{Bool, true, false}
 use mathlib.Core.List.{List, _∷_}
 use lib.ListN.{length, replicate}
 use lib.Dec.{eqb}
+use Rattle.checks.specs.Checks.{Checked, Must, Gives, outcome}
 use Rattle.state.specs.declared.Sizes.{Sizes}
 use Rattle.layout.specs.Places.{sizesFit, roomLength}
 use Rattle.room.specs.declared.opening.Opening.{Opening}
@@ -14,16 +14,18 @@ abbrev pub openRefusal : Opening → ℕ
 openRefusal Opened = 0
 openRefusal (Refused n) = n
 
+unfoldable pub openChecks : Sizes → List ℕ → Checked Opening
+openChecks z cells =
+    Must (sizesFit z) 1
+    (Must (eqb (length cells) (roomLength z)) 2
+    (Gives Opened))
+
+unfoldable pub opening : Sizes → List ℕ → Opening
+opening z cells = outcome Refused (openChecks z cells)
+
 -- a room just opened: N, D, S, and every other cell 0
 unfoldable pub openedCells : Sizes → List ℕ
 openedCells z = z .servers ∷ z .drives ∷ z .slots ∷ replicate (roomLength z - 3) 0
-
-abbrev pub mustOpen : Bool → ℕ → Opening → Opening
-mustOpen true n rest = rest
-mustOpen false n rest = Refused n
-
-unfoldable pub opening : Sizes → List ℕ → Opening
-opening z cells = mustOpen (sizesFit z) 1 (mustOpen (eqb (length cells) (roomLength z)) 2 Opened)
 
 -- the row afterwards: the room, or as it was where the call is refused
 abbrev pub openedBy : Sizes → List ℕ → Opening → List ℕ

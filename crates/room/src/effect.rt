@@ -3,7 +3,7 @@ ghost use mathlib.Core.Path.{_≡_};
 ghost use mathlib.Core.Bool.{true};
 ghost use Rattle.layout.specs.Places.{Row};
 ghost use Rattle.synod.specs.Arguments.{placesFit};
-ghost use Rattle.room.specs.Judge.{recording, blocking, ruled, judged, answerOf};
+ghost use Rattle.room.specs.Judge.{recording, blocking, effectOf, judged, answerOf};
 use layout::block;
 use layout::server;
 use quorum::with_mark;
@@ -65,14 +65,14 @@ impl Effect {
 pub fn judge(room: &[u32], step: Step) -> Effect
     ensures { λ r. ⌜ r ≡ judged (now (room .entry)) step ⌝ }
 {
-    let limits = command::limits();
-    if !range::in_range(room, &limits) {
+    if !range::in_range(room) {
         return Effect::Refused(3);
     }
     let z = layout::sizes(room);
     if !rules::arguments::places_fit(z, step) {
         return Effect::Refused(4);
     }
+    let limits = layout::limits(room);
     if !rules::arguments::command_fits(&limits, step) {
         return Effect::Refused(5);
     }
@@ -82,9 +82,9 @@ pub fn judge(room: &[u32], step: Step) -> Effect
 // The rule of the step's kind, on the record and the block that it names.
 fn rule(room: &[u32], z: Sizes, step: Step) -> Effect
     requires { ⌜ Row z (now room) × (placesFit z step ≡ true) ⌝ }
-    ensures { λ r. ⌜ r ≡ ruled z (now (room .entry)) step ⌝ }
+    ensures { λ r. ⌜ r ≡ effectOf z (now (room .entry)) step ⌝ }
 {
-    let off = room[3];
+    let off = room[layout::OFF];
     match step {
         Step::Offer(p, s, command) => recorded(s, p, rules::offer(server(room, z, s, p), command)),
         Step::Recall(p, s, d) => {

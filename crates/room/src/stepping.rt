@@ -55,7 +55,7 @@ fn settle(room: &mut [u32], e: Effect)
             fail(room, z, server);
         }
         Effect::Off(marks) => {
-            room[3] = marks;
+            room[layout::OFF] = marks;
         }
     }
 }

@@ -3,11 +3,19 @@ use borrow.Author.Needs.{needs}
 use Rattle.room.proofs.effect.rule.Statement.{statement}
 use Rattle.room.proofs.effect.rule.Tie as tie
 use native.Mathlib.Omega.{arith}
-use mathlib.Core.Path.{subst}
+use mathlib.Core.Path.{_≡_, subst}
+use mathlib.Core.Bool.{true}
+use Rattle.state.specs.declared.Sizes.{Sizes}
+use Rattle.state.specs.declared.Step.{Step}
+use Rattle.synod.specs.Arguments.{placesFit}
 use Rattle.layout.proofs.PlaceLaws.{base-room}
-use Rattle.room.specs.Judge.{ruled}
-use Rattle.synod.specs.Rules as machine
+use Rattle.room.specs.Judge.{effectOf}
+use Rattle.synod.specs.Rules.{ruleOf}
 use Rattle.synod.proofs.Places.{Placed, placed}
+
+-- the places of the step that the match told
+told : (z : Sizes) (st kind : Step) → placesFit z st ≡ true → st ≡ kind → Placed z kind
+told z st kind h e = subst (Placed z) e (placed z st h)
 
 shared-slice-read-off : tie.Need-shared-slice-read-off
 shared-slice-read-off c =
@@ -20,10 +28,9 @@ enum-known-step c = search needs
 
 server-requires : tie.Need-server-requires
 server-requires c κs =
-    let at-args = c .before .before .before .before .before .args in
-    let at-step = c .before .step in
-    let at-pre = c .before .before .before .before .before .pre in
-    let a = subst (Placed (at-args .z)) (at-step .given .1) (placed (at-args .z) (at-args .step) (at-pre .1)) in (at-pre .0, a .slot, a .server)
+    let pre = c .before .before .before .before .before .pre in
+    let a = told _ _ _ (pre .1) (c .before .step .given .1) in
+    (pre .0, a .slot, a .server)
 
 offer-requires : tie.Need-offer-requires
 offer-requires c κs = search needs
@@ -36,17 +43,15 @@ enum-known-step-2 c = search needs
 
 server-requires-2 : tie.Need-server-requires-2
 server-requires-2 c κs =
-    let at-args = c .before .before .before .before .before .args in
-    let at-step2 = c .before .step2 in
-    let at-pre = c .before .before .before .before .before .pre in
-    let a = subst (Placed (at-args .z)) (at-step2 .given .1) (placed (at-args .z) (at-args .step) (at-pre .1)) in (at-pre .0, a .slot, a .server)
+    let pre = c .before .before .before .before .before .pre in
+    let a = told _ _ _ (pre .1) (c .before .step2 .given .1) in
+    (pre .0, a .slot, a .server)
 
 block-requires : tie.Need-block-requires
 block-requires c κs =
-    let at-args = c .before .before .before .before .before .before .args in
-    let at-step2 = c .before .before .step2 in
-    let at-pre = c .before .before .before .before .before .before .pre in
-    let a = subst (Placed (at-args .z)) (at-step2 .given .1) (placed (at-args .z) (at-args .step) (at-pre .1)) in (at-pre .0, a .slot, a .drive, a .server)
+    let pre = c .before .before .before .before .before .before .pre in
+    let a = told _ _ _ (pre .1) (c .before .before .step2 .given .1) in
+    (pre .0, a .slot, a .drive, a .server)
 
 recall-requires : tie.Need-recall-requires
 recall-requires c κs = search needs
@@ -59,10 +64,9 @@ enum-known-step-3 c = search needs
 
 server-requires-3 : tie.Need-server-requires-3
 server-requires-3 c κs =
-    let at-args = c .before .before .before .before .before .args in
-    let at-step3 = c .before .step3 in
-    let at-pre = c .before .before .before .before .before .pre in
-    let a = subst (Placed (at-args .z)) (at-step3 .given .1) (placed (at-args .z) (at-args .step) (at-pre .1)) in (at-pre .0, a .slot, a .server)
+    let pre = c .before .before .before .before .before .pre in
+    let a = told _ _ _ (pre .1) (c .before .step3 .given .1) in
+    (pre .0, a .slot, a .server)
 
 rejoin-requires : tie.Need-rejoin-requires
 rejoin-requires c κs = search needs
@@ -75,10 +79,9 @@ enum-known-step-4 c = search needs
 
 server-requires-4 : tie.Need-server-requires-4
 server-requires-4 c κs =
-    let at-args = c .before .before .before .before .before .args in
-    let at-step4 = c .before .step4 in
-    let at-pre = c .before .before .before .before .before .pre in
-    let a = subst (Placed (at-args .z)) (at-step4 .given .1) (placed (at-args .z) (at-args .step) (at-pre .1)) in (at-pre .0, a .slot, a .server)
+    let pre = c .before .before .before .before .before .pre in
+    let a = told _ _ _ (pre .1) (c .before .step4 .given .1) in
+    (pre .0, a .slot, a .server)
 
 bid-requires : tie.Need-bid-requires
 bid-requires c κs = search needs
@@ -91,10 +94,9 @@ enum-known-step-5 c = search needs
 
 server-requires-5 : tie.Need-server-requires-5
 server-requires-5 c κs =
-    let at-args = c .before .before .before .before .before .args in
-    let at-step5 = c .before .step5 in
-    let at-pre = c .before .before .before .before .before .pre in
-    let a = subst (Placed (at-args .z)) (at-step5 .given .1) (placed (at-args .z) (at-args .step) (at-pre .1)) in (at-pre .0, a .slot, a .server)
+    let pre = c .before .before .before .before .before .pre in
+    let a = told _ _ _ (pre .1) (c .before .step5 .given .1) in
+    (pre .0, a .slot, a .server)
 
 write-requires : tie.Need-write-requires
 write-requires c κs = search needs
@@ -107,17 +109,15 @@ enum-known-step-6 c = search needs
 
 server-requires-6 : tie.Need-server-requires-6
 server-requires-6 c κs =
-    let at-args = c .before .before .before .before .before .args in
-    let at-step6 = c .before .step6 in
-    let at-pre = c .before .before .before .before .before .pre in
-    let a = subst (Placed (at-args .z)) (at-step6 .given .1) (placed (at-args .z) (at-args .step) (at-pre .1)) in (at-pre .0, a .slot, a .server)
+    let pre = c .before .before .before .before .before .pre in
+    let a = told _ _ _ (pre .1) (c .before .step6 .given .1) in
+    (pre .0, a .slot, a .server)
 
 block-requires-2 : tie.Need-block-requires-2
 block-requires-2 c κs =
-    let at-args = c .before .before .before .before .before .before .args in
-    let at-step6 = c .before .before .step6 in
-    let at-pre = c .before .before .before .before .before .before .pre in
-    let a = subst (Placed (at-args .z)) (at-step6 .given .1) (placed (at-args .z) (at-args .step) (at-pre .1)) in (at-pre .0, a .slot, a .drive, a .other)
+    let pre = c .before .before .before .before .before .before .pre in
+    let a = told _ _ _ (pre .1) (c .before .before .step6 .given .1) in
+    (pre .0, a .slot, a .drive, a .other)
 
 read-requires : tie.Need-read-requires
 read-requires c κs = search needs
@@ -130,10 +130,9 @@ enum-known-step-7 c = search needs
 
 server-requires-7 : tie.Need-server-requires-7
 server-requires-7 c κs =
-    let at-args = c .before .before .before .before .before .args in
-    let at-step7 = c .before .step7 in
-    let at-pre = c .before .before .before .before .before .pre in
-    let a = subst (Placed (at-args .z)) (at-step7 .given .1) (placed (at-args .z) (at-args .step) (at-pre .1)) in (at-pre .0, a .slot, a .server)
+    let pre = c .before .before .before .before .before .pre in
+    let a = told _ _ _ (pre .1) (c .before .step7 .given .1) in
+    (pre .0, a .slot, a .server)
 
 finish-requires : tie.Need-finish-requires
 finish-requires c κs = search needs
@@ -163,89 +162,54 @@ without-mark-requires : tie.Need-without-mark-requires
 without-mark-requires c κs = search needs
 
 returns : tie.Need-returns
-unfolding ruled machine.ruleOf
+unfolding effectOf ruleOf
 returns c =
-    let at-step = c .before .before .before .before .step in
-    let at-recorded = c .recorded in
-    let at-offer = c .before .offer in
-    let at-server = c .before .before .server in
-    rw (at-step .given .1, at-recorded .ensures, at-offer .ensures, at-server .ensures)
+    rw (c .before .before .before .before .step .given .1, c .recorded .ensures, c .before .offer .ensures, c .before .before .server .ensures)
 
 returns-2 : tie.Need-returns-2
-unfolding ruled machine.ruleOf
+unfolding effectOf ruleOf
 returns-2 c =
-    let at-step2 = c .before .before .before .before .before .step2 in
-    let at-recorded2 = c .recorded2 in
-    let at-recall = c .before .recall in
-    let at-block = c .before .before .block in
-    let at-server2 = c .before .before .before .server2 in
-    rw (at-step2 .given .1, at-recorded2 .ensures, at-recall .ensures, at-block .ensures, at-server2 .ensures)
+    rw (c .before .before .before .before .before .step2 .given .1, c .recorded2 .ensures, c .before .recall .ensures, c .before .before .block .ensures, c .before .before .before .server2 .ensures)
 
 returns-3 : tie.Need-returns-3
-unfolding ruled machine.ruleOf
+unfolding effectOf ruleOf
 returns-3 c =
-    let at-step3 = c .before .before .before .before .step3 in
-    let at-recorded3 = c .recorded3 in
-    let at-rejoin = c .before .rejoin in
-    let at-server3 = c .before .before .server3 in
-    rw (at-step3 .given .1, at-recorded3 .ensures, at-rejoin .ensures, at-server3 .ensures)
+    rw (c .before .before .before .before .step3 .given .1, c .recorded3 .ensures, c .before .rejoin .ensures, c .before .before .server3 .ensures)
 
 returns-4 : tie.Need-returns-4
-unfolding ruled machine.ruleOf
+unfolding effectOf ruleOf
 returns-4 c =
-    let at-step4 = c .before .before .before .before .step4 in
-    let at-recorded4 = c .recorded4 in
-    let at-bid = c .before .bid in
-    let at-server4 = c .before .before .server4 in
-    rw (at-step4 .given .1, at-recorded4 .ensures, at-bid .ensures, at-server4 .ensures)
+    rw (c .before .before .before .before .step4 .given .1, c .recorded4 .ensures, c .before .bid .ensures, c .before .before .server4 .ensures)
 
 returns-5 : tie.Need-returns-5
-unfolding ruled machine.ruleOf
+unfolding effectOf ruleOf
 returns-5 c =
-    let at-step5 = c .before .before .before .before .step5 in
-    let at-blocked = c .blocked in
-    let at-write = c .before .write in
-    let at-server5 = c .before .before .server5 in
-    rw (at-step5 .given .1, at-blocked .ensures, at-write .ensures, at-server5 .ensures)
+    rw (c .before .before .before .before .step5 .given .1, c .blocked .ensures, c .before .write .ensures, c .before .before .server5 .ensures)
 
 returns-6 : tie.Need-returns-6
-unfolding ruled machine.ruleOf
+unfolding effectOf ruleOf
 returns-6 c =
-    let at-step6 = c .before .before .before .before .before .step6 in
-    let at-recorded5 = c .recorded5 in
-    let at-read = c .before .read in
-    let at-block2 = c .before .before .block2 in
-    let at-server6 = c .before .before .before .server6 in
-    rw (at-step6 .given .1, at-recorded5 .ensures, at-read .ensures, at-block2 .ensures, at-server6 .ensures)
+    rw (c .before .before .before .before .before .step6 .given .1, c .recorded5 .ensures, c .before .read .ensures, c .before .before .block2 .ensures, c .before .before .before .server6 .ensures)
 
 returns-7 : tie.Need-returns-7
-unfolding ruled machine.ruleOf
+unfolding effectOf ruleOf
 returns-7 c =
-    let at-step7 = c .before .before .before .before .step7 in
-    let at-recorded6 = c .recorded6 in
-    let at-finish = c .before .finish in
-    let at-server7 = c .before .before .server7 in
-    rw (at-step7 .given .1, at-recorded6 .ensures, at-finish .ensures, at-server7 .ensures)
+    rw (c .before .before .before .before .step7 .given .1, c .recorded6 .ensures, c .before .finish .ensures, c .before .before .server7 .ensures)
 
 returns-8 : tie.Need-returns-8
-unfolding ruled machine.ruleOf
+unfolding effectOf ruleOf
 returns-8 c =
-    let at-step8 = c .before .step8 in
-    rw (at-step8 .given .1)
+    rw (c .before .step8 .given .1)
 
 returns-9 : tie.Need-returns-9
-unfolding ruled machine.ruleOf
+unfolding effectOf ruleOf
 returns-9 c =
-    let at-step9 = c .before .before .step9 in
-    let at-with-mark = c .with-mark in
-    rw (at-step9 .given .1, at-with-mark .ensures)
+    rw (c .before .before .step9 .given .1, c .with-mark .ensures)
 
 returns-10 : tie.Need-returns-10
-unfolding ruled machine.ruleOf
+unfolding effectOf ruleOf
 returns-10 c =
-    let at-step10 = c .before .before .step10 in
-    let at-without-mark = c .without-mark in
-    rw (at-step10 .given .1, at-without-mark .ensures)
+    rw (c .before .before .step10 .given .1, c .without-mark .ensures)
 
 pub rule-spec : {M : Type 1} → statement M
 rule-spec =
