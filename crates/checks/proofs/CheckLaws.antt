@@ -39,3 +39,9 @@ all-give refused P stop (Must false n c) h = stop n
 all-give refused P stop (Either true x y) h = all-give refused P stop x (h .0)
 all-give refused P stop (Either false x y) h = all-give refused P stop y (h .1)
 all-give refused P stop (Gives a) h = h
+
+pub all-map
+    : {A : Type 0} (P Q : A → Type 0) → ((a : A) → P a → Q a) → (c : Checked A) → AllGive P c → AllGive Q c
+all-map P Q f (Must b n c) h = all-map P Q f c h
+all-map P Q f (Either t x y) h = (all-map P Q f x (h .0), all-map P Q f y (h .1))
+all-map P Q f (Gives a) h = f a h

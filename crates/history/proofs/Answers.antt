@@ -10,14 +10,14 @@ use Rattle.state.specs.declared.Answer.{Answer}
 use Rattle.state.specs.declared.Answer.the-variants as answer
 use Rattle.state.specs.declared.Sizes.{Sizes}
 use Rattle.state.specs.declared.Step.{Step}
-use Rattle.state.specs.View.{Brings, Stores, Alone, View, AtSlot, AtServer, AtDrive, viewOf, slotAt}
+use Rattle.state.specs.View.{Brings, Stores, Alone, View, AtSlot, AtServer, AtDrive, viewOf, viewSlot}
+use Rattle.synod.proofs.Machine.{ruled}
 use Rattle.synod.specs.declared.Ruling.{Ruling}
 use Rattle.synod.specs.Slot.{Slot, configOf}
-use Rattle.synod.specs.Rules as machine
 use Rattle.synod.proofs.Rulings.{Plain, plain}
 use Rattle.layout.specs.Cells.{offOf}
-use Rattle.room.specs.Judge.{seen, ruled, answerOf}
-use Rattle.step_laws.specs.Slots.{concernsAt, concerns}
+use Rattle.room.specs.Judge.{seen, effectOf, answerOf}
+use Rattle.step_laws.specs.Concerns.{concernsAt, concerns}
 use Rattle.step_laws.proofs.Lowest.{answerBy, effect-answer}
 use Rattle.history.specs.Run.{Rests, deedMove, moveAt, moveOf}
 
@@ -48,17 +48,17 @@ unconcerned t st a e = unconcerned-view t (viewOf st) a e
 -- the answer of a view with the rule f is that of the rule at the slot t that it concerns
 view-answer
     : (z : Sizes) (r : List ℕ) (w : View) (f : Slot → Ruling) (t : ℕ)
-    → concernsAt t w ≡ true → ((σ : Slot) → Plain w (f σ)) → answerBy (f (seen z r (slotAt w))) ≡ answerBy (f (seen z r t))
+    → concernsAt t w ≡ true → ((σ : Slot) → Plain w (f σ)) → answerBy (f (seen z r (viewSlot w))) ≡ answerBy (f (seen z r t))
 view-answer z r (AtSlot p s k) f t e plainly = ap (λ (u : ℕ). answerBy (f (seen z r u))) (eqb-true s t e)
 view-answer z r (AtServer p) f t e plainly = ap answerBy (plainly (seen z r 0) ∙ sym (plainly (seen z r t)))
 view-answer z r (AtDrive d on) f t e plainly = absurd (true≢false (sym e))
 
 pub answer-tie
     : (z : Sizes) (r : List ℕ) (st : Step) (t : ℕ) → concerns t st ≡ true
-    → answerOf (ruled z r st) ≡ answerBy (machine.ruled (configOf z) (offOf r) (seen z r t) st)
-unfolding ruled concerns
+    → answerOf (effectOf z r st) ≡ answerBy (ruled (configOf z) (offOf r) (seen z r t) st)
+unfolding effectOf concerns
 answer-tie z r st t e =
-    let f : Slot → Ruling = λ σ. machine.ruled (configOf z) (offOf r) σ st in
+    let f : Slot → Ruling = λ σ. ruled (configOf z) (offOf r) σ st in
     let plainly : (σ : Slot) → Plain (viewOf st) (f σ) = λ σ. plain (configOf z) (offOf r) σ st in
-    effect-answer (viewOf st) _ (f (seen z r (slotAt (viewOf st)))) (plainly (seen z r (slotAt (viewOf st))))
+    effect-answer (viewOf st) _ (f (seen z r (viewSlot (viewOf st)))) (plainly (seen z r (viewSlot (viewOf st))))
     ∙ view-answer z r (viewOf st) f t e plainly

@@ -11,8 +11,7 @@ use Rattle.state.specs.declared.Sizes.{Sizes}
 use Rattle.state.specs.declared.Step.{Step}
 use Rattle.synod.specs.declared.Ruling.{Ruling}
 use Rattle.synod.specs.Arguments.{placesFit, commandFits}
-use Rattle.synod.specs.Rules as slot
-use Rattle.synod.proofs.Machine.{after, Fits}
+use Rattle.synod.proofs.Machine.{ruled, after, Fits}
 use Rattle.synod.proofs.Past.{Ghost, noted}
 use Rattle.synod.specs.Slot.{Slot, configOf}
 use Rattle.synod.proofs.Alike.{Alike, alike-then, ruled-alike, after-alike}
@@ -20,14 +19,15 @@ use Rattle.synod.proofs.Invariant.{Invariant}
 use Rattle.synod.proofs.Kept.{kept}
 use Rattle.synod.proofs.Places.{in-view}
 use Rattle.layout.specs.Places.{Fit}
-use Rattle.layout.specs.Cells.{offOf}
+use Rattle.layout.specs.Cells.{limitsOf, offOf}
 use Rattle.room.specs.declared.effect.Effect.{Effect}
-use Rattle.room.specs.Judge.{seen, limitsOf, ruled, judged, answerOf}
+use Rattle.room.specs.Judge.{seen, effectOf, judged, answerOf}
 use Rattle.room.specs.Step.{settled, answered, stepped}
 use Rattle.room.proofs.Checks.{by-checks}
-use Rattle.step_laws.specs.Slots.{concerns, afterAt}
+use Rattle.step_laws.specs.Concerns.{concerns}
+use Rattle.step_laws.proofs.Slots.{afterAt}
 use Rattle.step_laws.proofs.StoresKeep.{Whole}
-use Rattle.step_laws.proofs.StepKeeps.{ruled-kept}
+use Rattle.step_laws.proofs.StepKeeps.{effect-kept}
 use Rattle.step_laws.proofs.SlotTie.{slot-tie}
 use Rattle.history.specs.Run.{Rests, moveOf, WhenChooses}
 use Rattle.history.proofs.SlotMoves.{rests}
@@ -70,14 +70,14 @@ module _ (limits : List ℕ) (z : Sizes) (cells : List ℕ) (g : ℕ → Ghost) 
       (λ e.
       rw e
       (subst
-      (λ (x : Ruling). Alike (configOf z) (after (σ t) st (slot.ruled (configOf z) (offOf cells) (σ t) st)) (after (seen z cells t) st x))
+      (λ (x : Ruling). Alike (configOf z) (after (σ t) st (ruled (configOf z) (offOf cells) (σ t) st)) (after (seen z cells t) st x))
       (ruled-alike z (offOf cells) like st h)
-      (after-alike like st (slot.ruled (configOf z) (offOf cells) (σ t) st))))
+      (after-alike like st (ruled (configOf z) (offOf cells) (σ t) st))))
       (λ e. rw e like)
 
   abbrev ghostAfter : Step → ℕ → Ghost
   ghostAfter st t =
-      cond (concerns t st) (noted (g t) (σ t) st (slot.ruled (configOf z) (offOf cells) (σ t) st)) (g t)
+      cond (concerns t st) (noted (g t) (σ t) st (ruled (configOf z) (offOf cells) (σ t) st)) (g t)
 
   holds-after
       : (st : Step) → placesFit z st ≡ true → (t : ℕ) → t < z .slots
@@ -90,7 +90,7 @@ module _ (limits : List ℕ) (z : Sizes) (cells : List ℕ) (g : ℕ → Ghost) 
 
   moves-after
       : (st : Step) → placesFit z st ≡ true → (t : ℕ) → t < z .slots
-      → MovesBy t (g t) (σ t) st (answerOf (ruled z cells st)) (ghostAfter st t) (afterAt z (offOf cells) t (σ t) st)
+      → MovesBy t (g t) (σ t) st (answerOf (effectOf z cells st)) (ghostAfter st t) (afterAt z (offOf cells) t (σ t) st)
   unfolding afterAt
   moves-after st h t l =
       by-test (concerns t st)
@@ -98,18 +98,18 @@ module _ (limits : List ℕ) (z : Sizes) (cells : List ℕ) (g : ℕ → Ghost) 
       let same =
       answer-tie z cells st t e ∙ sym (ap answerBy (ruled-alike z (offOf cells) (now .alike t l) st h)) in
       rw (e, same) (concerned z (fits-of z fit) (offOf cells) (g t) (σ t) (now .holds t l) st h t e))
-      (λ e. rw e (resting t (g t) (σ t) st (answerOf (ruled z cells st)) (unconcerned t st (answerOf (ruled z cells st)) e)))
+      (λ e. rw e (resting t (g t) (σ t) st (answerOf (effectOf z cells st)) (unconcerned t st (answerOf (effectOf z cells st)) e)))
 
-  ruled-next
+  effect-next
       : (st : Step) → placesFit z st ≡ true → commandFits limits st ≡ true
-      → Next limits z g σ st (answerOf (ruled z cells st)) (settled z cells (ruled z cells st))
-  ruled-next st h k =
+      → Next limits z g σ st (answerOf (effectOf z cells st)) (settled z cells (effectOf z cells st))
+  effect-next st h k =
       record {
         ghosts = ghostAfter st;
         slots = λ t. afterAt z (offOf cells) t (σ t) st;
         moment =
             record {
-              whole = ruled-kept limits z cells (now .whole) st h k;
+              whole = effect-kept limits z cells (now .whole) st h k;
               alike =
                   λ t l.
                   alike-then (after-alike-at st h t l) (slot-tie z cells (now .whole .range .row) st h t l);
@@ -118,7 +118,7 @@ module _ (limits : List ℕ) (z : Sizes) (cells : List ℕ) (g : ℕ → Ghost) 
         moves = moves-after st h;
         within =
             λ t.
-            chooses-map (moveOf t st (answerOf (ruled z cells st))) _ _ (λ p c. c .within z (in-view z st h)) (chooser t st (answerOf (ruled z cells st)));
+            chooses-map (moveOf t st (answerOf (effectOf z cells st))) _ _ (λ p c. c .within z (in-view z st h)) (chooser t st (answerOf (effectOf z cells st)));
       }
 
   refused-next : (st : Step) (n : ℕ) → Next limits z g σ st (answer.Refused n) cells
@@ -144,5 +144,5 @@ next z cells g σ now st =
     (λ a b. unfold settled in refused-next (limitsOf cells) z cells g σ now st 4)
     (λ a b c. unfold settled in refused-next (limitsOf cells) z cells g σ now st 5)
     (λ a b c.
-    subst (λ (y : Sizes). Next (limitsOf cells) z g σ st (answerOf (ruled y cells st)) (settled z cells (ruled y cells st))) (sym same)
-    (ruled-next (limitsOf cells) z cells g σ now st (ap (λ (y : Sizes). placesFit y st) (sym same) ∙ b) c)))
+    subst (λ (y : Sizes). Next (limitsOf cells) z g σ st (answerOf (effectOf y cells st)) (settled z cells (effectOf y cells st))) (sym same)
+    (effect-next (limitsOf cells) z cells g σ now st (ap (λ (y : Sizes). placesFit y st) (sym same) ∙ b) c)))

@@ -13,10 +13,9 @@ use Rattle.synod.proofs.Past.{Ghost}
 use Rattle.synod.specs.Slot.{Slot}
 use Rattle.synod.proofs.Agreement.{agree, output-committed}
 use Rattle.synod.proofs.Outputs.{outputs}
-use Rattle.layout.specs.Cells.{sizesOf, serverOf}
+use Rattle.layout.specs.Cells.{limitsOf, sizesOf, serverOf}
 use Rattle.range.specs.Range.{inRange}
 use Rattle.range.proofs.Laws.{says-range}
-use Rattle.room.specs.Judge.{limitsOf}
 use Rattle.room.specs.Step.{answered, stepped}
 use Rattle.history.specs.Run.{history, Always, orElse, outputBy, firstOutput, Move, Offers, Chooses, Fails, Rests, moveOf, WhenChooses, outputIn, OfferedEarlier, AllCommit, CommitsOutput}
 use Rattle.history.specs.Machine.{Equal, Follows, ends, goes}

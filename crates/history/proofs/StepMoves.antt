@@ -9,7 +9,7 @@ use Rattle.state.specs.declared.Sizes.{Sizes}
 use Rattle.state.specs.declared.Step.{Step}
 use Rattle.state.specs.declared.Step.the-variants.{Offer, Recall, Rejoin, Bid, Write, Read, Finish, Fail, DriveOff, DriveOn}
 use Rattle.state.specs.Answers.{numberOf}
-use Rattle.state.specs.View.{Stores, Alone, View, AtSlot, viewOf, serverAt}
+use Rattle.state.specs.View.{Stores, Alone, View, AtSlot, viewOf, viewServer}
 use Rattle.synod.specs.declared.Ruling.{Ruling}
 use Rattle.synod.specs.declared.Ruling.the-variants.{Refused, Accepted}
 use Rattle.synod.specs.Arguments.{placesFit}
@@ -20,7 +20,7 @@ use Rattle.synod.specs.Slot.{Slot, Config, configOf}
 use Rattle.synod.proofs.Invariant.{Invariant}
 use Rattle.synod.proofs.Kept.{kept}
 use Rattle.synod.proofs.Outputs.{outputs, offers, told, outputsAt, outputsAfter, offersAt, offersAfter, outputs-told, offers-told, committed-by}
-use Rattle.step_laws.specs.Slots.{concernsAt, concerns}
+use Rattle.step_laws.specs.Concerns.{concernsAt, concerns}
 use Rattle.step_laws.proofs.Lowest.{answerBy}
 use Rattle.history.specs.Run.{Move, Offers, Chooses, Fails, Rests, committed, moveAt, moveOf, outputIn, given}
 use Rattle.history.proofs.Firsts.{or-zero, firstCommand}
@@ -39,10 +39,10 @@ committed-is (answer.Refused n) e = absurd (true≢false (sym e))
 
 -- a view that shows only by a committed answer of its server
 record Listener (w : View) : Type 0 where
-  notes : (g : Ghost) (σ : Slot) (a : Answer) → ghostAfter g σ w a ≡ heard g (σ (serverAt w) .own .mbal) a
-  outs : (f : ℕ → ℕ) (a : Answer) → outputsAt f w a ≡ told f (serverAt w) a
+  notes : (g : Ghost) (σ : Slot) (a : Answer) → ghostAfter g σ w a ≡ heard g (σ (viewServer w) .own .mbal) a
+  outs : (f : ℕ → ℕ) (a : Answer) → outputsAt f w a ≡ told f (viewServer w) a
   offs : (f : ℕ → ℕ) → offersAt f w ≡ f
-  moves : (t : ℕ) (a : Answer) → moveAt t w a ≡ cond (concernsAt t w) (cond (committed a) (Chooses (serverAt w)) Rests) Rests
+  moves : (t : ℕ) (a : Answer) → moveAt t w a ≡ cond (concernsAt t w) (cond (committed a) (Chooses (viewServer w)) Rests) Rests
 
 alone-listens : (p s : ℕ) → Listener (AtSlot p s Alone)
 alone-listens p s = record { notes = λ g σ a. refl; outs = λ f a. refl; offs = λ f. refl; moves = λ t a. refl }
@@ -52,7 +52,7 @@ store-listens p s d = record { notes = λ g σ a. refl; outs = λ f a. refl; off
 
 -- the move of such a view, at a slot that it concerns
 abbrev chosenBy : View → Answer → Move
-chosenBy w a = cond (committed a) (Chooses (serverAt w)) Rests
+chosenBy w a = cond (committed a) (Chooses (viewServer w)) Rests
 
 module _ (c : Config) (off : ℕ) (g : Ghost) (σ : Slot) where
   listened
@@ -63,13 +63,13 @@ module _ (c : Config) (off : ℕ) (g : Ghost) (σ : Slot) where
   unfolding noted after outputsAfter offersAfter
   listened st l (Refused n) e inv outs offs = rests g σ
   listened st l (Accepted v a) e inv outs offs =
-      let p = serverAt (viewOf st) in
+      let p = viewServer (viewOf st) in
       rw (l .notes g σ a)
       (listens c g σ (after σ st (Accepted v a)) p (σ p .own .mbal) a
       (rw (l .notes g σ a) at inv)
       (λ k.
       let by = committed-by c off σ (numberOf a) st v (e ∙ ap (Accepted v) (committed-is a k)) in
-      ap (λ (s : Step). outputs σ (serverAt (viewOf s))) (by .step) ∙ by .before)
+      ap (λ (s : Step). outputs σ (viewServer (viewOf s))) (by .step) ∙ by .before)
       (λ q. outs q ∙ ap (λ (f : ℕ → ℕ). f q) (l .outs (outputs σ) a))
       (λ q. offs q ∙ ap (λ (f : ℕ → ℕ). f q) (l .offs (offers σ))))
 

@@ -23,17 +23,17 @@ abbrev pub atFirst : Machine
 atFirst = record { offers = λ p. 0; outputs = λ p. 0; given = []; chosen = 0 }
 
 -- "Offer(p, v): offer of p is v, v joins given"
-abbrev pub withOffer : Machine → ℕ → ℕ → Machine
-withOffer m p v =
+abbrev pub afterOffer : Machine → ℕ → ℕ → Machine
+afterOffer m p v =
     record { offers = updated (m .offers) p v; outputs = m .outputs; given = v ∷ m .given; chosen = m .chosen }
 
 -- "p's output is chosen"
-abbrev pub withOutput : Machine → ℕ → ℕ → Machine
-withOutput m p v = record { offers = m .offers; outputs = updated (m .outputs) p v; given = m .given; chosen = v }
+abbrev pub afterChoose : Machine → ℕ → ℕ → Machine
+afterChoose m p v = record { offers = m .offers; outputs = updated (m .outputs) p v; given = m .given; chosen = v }
 
 -- "Fail(p): offer and output of p become none"
-abbrev pub withoutServer : Machine → ℕ → Machine
-withoutServer m p =
+abbrev pub afterFail : Machine → ℕ → Machine
+afterFail m p =
     record { offers = updated (m .offers) p 0; outputs = updated (m .outputs) p 0; given = m .given; chosen = m .chosen }
 
 -- "Choose(p), output of p none: if chosen is none it becomes some member of given; p's output is chosen"
@@ -42,13 +42,13 @@ pub record Choose (m : Machine) (p : ℕ) (n : Machine) : Type 0 where
   pub no-output : m .outputs p ≡ 0
   pub member : m .chosen ≡ 0 → List·Memᴰ choice (m .given)
   pub keeps : (m .chosen ≡ 0 → ⊥) → choice ≡ m .chosen
-  pub becomes : n ≡ withOutput m p choice
+  pub becomes : n ≡ afterChoose m p choice
 
 -- the move takes the machine from m to n
 abbrev pub Makes : Move → Machine → Machine → Type 0
-Makes (Offers p v) m n = n ≡ withOffer m p v
+Makes (Offers p v) m n = n ≡ afterOffer m p v
 Makes (Chooses p) m n = Choose m p n
-Makes (Fails p) m n = n ≡ withoutServer m p
+Makes (Fails p) m n = n ≡ afterFail m p
 Makes Rests m n = n ≡ m
 
 -- every server's offer and output in slot t equal the machine's

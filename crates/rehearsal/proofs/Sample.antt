@@ -11,14 +11,13 @@ use Rattle.quorum.specs.Marks.{stands, marked}
 use Rattle.quorum.specs.Sets.{allBelow, size, gathered, majority, within}
 use Rattle.synod.specs.Arguments.{placesFit, commandFits}
 use Rattle.synod.specs.Changes.{meeting, marking, topping, recalling, rejoining, bidding, writing, reading, proposing, committing}
-use Rattle.synod.specs.Rules as machine
 use Rattle.checks.specs.Checks.{must}
-use Rattle.synod.specs.Rules.{bidRule, finishRule, offerRule, outbidRule, readRule, recallRule, rejoinRule, writeRule}
+use Rattle.synod.specs.Rules.{ruleOf, bidRule, finishRule, offerRule, outbidRule, readRule, recallRule, rejoinRule, writeRule}
 use Rattle.layout.specs.Places.{slotLength, roomLength, slotAt, serverAt, nthBlockAt, blockAt, sizesFit}
 use Rattle.layout.specs.Cells.{serverOf, putServer, blockOf, putBlock}
 use Rattle.range.specs.Range.{legalDrives, legalReads, valueFits, numbersFit, serverFits, blockFits, serversFit, blocksFit, slotFits, cellsFit, inRange}
 use Rattle.room.specs.Open.{openedCells}
-use Rattle.room.specs.Judge.{check, ruled, judged}
+use Rattle.room.specs.Judge.{effectOf, stepChecks, judged}
 use Rattle.room.specs.Step.{failedBelow, settled, answered, stepped}
 use Rattle.record.specs.Fields.{maskOf, stepOf}
 use Rattle.record.specs.Map.{fieldsLength, recordLength, asksMore, malformed, zeroAmong}
@@ -46,7 +45,7 @@ unfolding ones onesIn
     must offerRule recallRule rejoinRule bidRule writeRule outbidRule readRule finishRule
     slotLength roomLength slotAt serverAt nthBlockAt blockAt sizesFit serverOf putServer blockOf putBlock
     legalDrives legalReads valueFits numbersFit serverFits blockFits serversFit blocksFit slotFits cellsFit inRange
-    openedCells check ruled machine.ruleOf judged failedBelow settled answered stepped
+    openedCells stepChecks effectOf ruleOf judged failedBelow settled answered stepped
     maskOf stepOf fieldsLength recordLength asksMore malformed zeroAmong lowNumber valuesAt refuse readingOf
     ran history applies entry cellsAfter skippedBy folded outputAt leading outputsOf entriesOf catalogueOf call.must
     digitsIn digits stepLine serverLine openLine

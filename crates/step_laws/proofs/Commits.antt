@@ -8,14 +8,16 @@ use Rattle.state.specs.declared.Sizes.{Sizes}
 use Rattle.state.specs.declared.Step.{Step}
 use Rattle.state.specs.declared.Step.the-variants.{Offer, Recall, Rejoin, Bid, Write, Read, Finish, Fail, DriveOff, DriveOn}
 use Rattle.state.specs.Answers.{codeOf}
-use Rattle.state.specs.View.{viewOf, slotAt}
+use Rattle.state.specs.View.{viewOf, viewSlot}
 use Rattle.synod.specs.declared.Ruling.{Ruling}
+use Rattle.synod.specs.declared.Ruling.the-variants.{Refused}
 use Rattle.synod.specs.Rules.{offerRule, recallRule, rejoinRule, bidRule, writeRule, outbidRule, readRule, finishRule, ruling, ruleOf}
 use Rattle.synod.specs.Slot.{Slot, Config, configOf}
-use Rattle.synod.proofs.Rulings.{AllDo, all-do, plain}
+use Rattle.checks.proofs.CheckLaws.{AllGive, all-give}
+use Rattle.synod.proofs.Rulings.{plain}
 use Rattle.layout.specs.Cells.{sizesOf, offOf}
 use Rattle.room.specs.declared.effect.Effect.{Effect}
-use Rattle.room.specs.Judge.{seen, ruleAt, ruled, answerOf}
+use Rattle.room.specs.Judge.{seen, ruleAt, effectOf, answerOf}
 use Rattle.room.specs.Step.{answered}
 use Rattle.room.proofs.Checks.{by-checks}
 use Rattle.step_laws.proofs.Lowest.{answerBy, effect-answer}
@@ -29,7 +31,7 @@ abbrev Commits : Step → Answer → Type 0
 Commits st a = codeOf a ≡ 3 → Finishes st
 
 -- what a kind's own rule answers: done or outbid, but for a Finish
-rule-commits : (c : Config) (off : ℕ) (σ : Slot) (st : Step) → AllDo (λ v a. Commits st a) (ruleOf c off σ st)
+rule-commits : (c : Config) (off : ℕ) (σ : Slot) (st : Step) → AllGive (λ x. Commits st (answerBy x)) (ruleOf c off σ st)
 unfolding ruleOf offerRule recallRule rejoinRule bidRule writeRule outbidRule readRule finishRule
 rule-commits c off σ (Offer p s v) = λ e. absurd (omega arith)
 rule-commits c off σ (Recall p s d) = λ e. absurd (omega arith)
@@ -44,13 +46,13 @@ rule-commits c off σ (Fail p) = λ e. absurd (omega arith)
 rule-commits c off σ (DriveOff d) = λ e. absurd (omega arith)
 rule-commits c off σ (DriveOn d) = λ e. absurd (omega arith)
 
-ruled-commits : (z : Sizes) (cells : List ℕ) (st : Step) → Commits st (answerOf (ruled z cells st))
-unfolding ruled
-ruled-commits z cells st =
-    let σ = seen z cells (slotAt (viewOf st)) in
+effect-commits : (z : Sizes) (cells : List ℕ) (st : Step) → Commits st (answerOf (effectOf z cells st))
+unfolding effectOf
+effect-commits z cells st =
+    let σ = seen z cells (viewSlot (viewOf st)) in
     let x = ruleAt z cells st in
     subst (Commits st) (sym (effect-answer (viewOf st) _ (ruling x) (plain (configOf z) (offOf cells) σ st)))
-    (all-do (λ (y : Ruling). Commits st (answerBy y)) (λ n e. absurd (omega arith)) x (rule-commits (configOf z) (offOf cells) σ st))
+    (all-give Refused (λ (y : Ruling). Commits st (answerBy y)) (λ n e. absurd (omega arith)) x (rule-commits (configOf z) (offOf cells) σ st))
 
 -- a committed answer is a Finish's
 pub only-finish : (cells : List ℕ) (st : Step) → codeOf (answered cells st) ≡ 3 → Finishes st
@@ -58,4 +60,4 @@ unfolding answered
 only-finish cells st =
     by-checks cells st (λ (e : Effect). Commits st (answerOf e))
     (λ a e. absurd (omega arith)) (λ a b e. absurd (omega arith)) (λ a b c e. absurd (omega arith))
-    (λ a b c. ruled-commits (sizesOf cells) cells st)
+    (λ a b c. effect-commits (sizesOf cells) cells st)

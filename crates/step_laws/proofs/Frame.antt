@@ -9,10 +9,11 @@ use Rattle.synod.proofs.Alike.{Alike, alike-same}
 use Rattle.layout.specs.Cells.{sizesOf}
 use Rattle.range.proofs.Laws.{range-says}
 use Rattle.room.specs.declared.effect.Effect.{Effect}
-use Rattle.room.specs.Judge.{seen, limitsOf}
+use Rattle.room.specs.Judge.{seen}
 use Rattle.room.specs.Step.{settled, stepped}
 use Rattle.room.proofs.Checks.{by-checks}
-use Rattle.step_laws.specs.Slots.{concerns, afterAt}
+use Rattle.step_laws.specs.Concerns.{concerns}
+use Rattle.step_laws.proofs.Slots.{afterAt}
 use Rattle.step_laws.proofs.SlotTie.{slot-tie}
 
 pub slot-kept
@@ -26,4 +27,4 @@ slot-kept cells st t h e =
     (λ a. alike-same (configOf z) (seen z cells t))
     (λ a b. alike-same (configOf z) (seen z cells t))
     (λ a b c. alike-same (configOf z) (seen z cells t))
-    (λ a b c. rw e at (slot-tie z cells (range-says (limitsOf cells) cells a .row) st b t h))
+    (λ a b c. rw e at (slot-tie z cells (range-says cells a .row) st b t h))

@@ -9,21 +9,21 @@ use borrow.Author.Tests.{eqb-true, eqb-false}
 use Rattle.lemmas.proofs.Tests.{by-test}
 use Rattle.state.specs.declared.Sizes.{Sizes}
 use Rattle.state.specs.declared.Step.{Step}
-use Rattle.state.specs.View.{Deed, Brings, Stores, Alone, View, AtSlot, AtServer, AtDrive, viewOf, slotAt}
+use Rattle.state.specs.View.{Deed, Brings, Stores, Alone, View, AtSlot, AtServer, AtDrive, viewOf, viewSlot}
 use Rattle.synod.specs.declared.Ruling.{Ruling}
 use Rattle.synod.specs.declared.Ruling.the-variants.{Refused, Accepted}
 use Rattle.synod.specs.Arguments.{placesFit}
-use Rattle.synod.specs.Rules as machine
-use Rattle.synod.proofs.Machine.{afterView, after}
+use Rattle.synod.proofs.Machine.{ruled, afterView, after}
 use Rattle.synod.specs.Slot.{Slot, configOf}
 use Rattle.synod.proofs.Alike.{Alike, alike-same}
 use Rattle.synod.proofs.Places.{InView, in-view}
 use Rattle.synod.proofs.Rulings.{Plain, plain}
 use Rattle.layout.specs.Places.{Row}
 use Rattle.layout.specs.Cells.{offOf}
-use Rattle.room.specs.Judge.{seen, effectAt, ruled}
+use Rattle.room.specs.Judge.{seen, effectAt, effectOf}
 use Rattle.room.specs.Step.{settled}
-use Rattle.step_laws.specs.Slots.{concernsAt, concerns, afterAt}
+use Rattle.step_laws.specs.Concerns.{concernsAt, concerns}
+use Rattle.step_laws.proofs.Slots.{afterAt}
 use Rattle.step_laws.proofs.Seen.{record-here, record-elsewhere, block-here, block-elsewhere, off-elsewhere, fail-everywhere}
 
 module _ (z : Sizes) (r : List ℕ) (row : Row z r) where
@@ -55,7 +55,7 @@ module _ (z : Sizes) (r : List ℕ) (row : Row z r) where
   abbrev TiedAt : ℕ → View → ℕ → (Slot → Ruling) → Type 0
   TiedAt t w off f =
       Alike (configOf z) (cond (concernsAt t w) (afterView (seen z r t) w (f (seen z r t))) (seen z r t))
-      (seen z (settled z r (effectAt w off (f (seen z r (slotAt w))))) t)
+      (seen z (settled z r (effectAt w off (f (seen z r (viewSlot w))))) t)
 
   view-tie
       : (t : ℕ) → t < z .slots → (w : View) (off : ℕ) (f : Slot → Ruling) → InView z w → ((σ : Slot) → Plain w (f σ))
@@ -76,8 +76,8 @@ module _ (z : Sizes) (r : List ℕ) (row : Row z r) where
 
   pub slot-tie
       : (st : Step) → placesFit z st ≡ true → (t : ℕ) → t < z .slots
-      → Alike (configOf z) (afterAt z (offOf r) t (seen z r t) st) (seen z (settled z r (ruled z r st)) t)
-  unfolding ruled afterAt concerns after
+      → Alike (configOf z) (afterAt z (offOf r) t (seen z r t) st) (seen z (settled z r (effectOf z r st)) t)
+  unfolding effectOf afterAt concerns after
   slot-tie st e t h =
-      view-tie t h (viewOf st) _ (λ σ. machine.ruled (configOf z) (offOf r) σ st) (in-view z st e)
+      view-tie t h (viewOf st) _ (λ σ. ruled (configOf z) (offOf r) σ st) (in-view z st e)
       (λ σ. plain (configOf z) (offOf r) σ st)

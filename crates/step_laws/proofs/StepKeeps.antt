@@ -16,12 +16,12 @@ use Rattle.synod.specs.declared.Ruling.{Ruling}
 use Rattle.synod.specs.declared.Ruling.the-variants as said
 use Rattle.synod.specs.Arguments.{placesFit, commandFits}
 use Rattle.synod.specs.Rules.{ruling, ruleOf, offAfter}
-use Rattle.layout.specs.Cells.{sizesOf, offOf, serverOf, blockOf, putServer}
+use Rattle.layout.specs.Cells.{limitsOf, sizesOf, offOf, serverOf, blockOf, putServer}
 use Rattle.range.specs.Range.{legalDrives, masksOf, inRange}
 use Rattle.range.proofs.Laws.{block-fits, range-says, says-range}
 use Rattle.range.proofs.RecordLaws.{ServerIn, BlockIn, server-says, block-says, drive-legal}
 use Rattle.room.specs.declared.effect.Effect.{Effect}
-use Rattle.room.specs.Judge.{limitsOf, recording, blocking, effectAt, ruleAt, ruled}
+use Rattle.room.specs.Judge.{recording, blocking, effectAt, ruleAt, effectOf}
 use Rattle.room.specs.Step.{settled, stepped}
 use Rattle.synod.proofs.Places.{placed, InView, in-view}
 use Rattle.room.proofs.Checks.{by-checks}
@@ -92,29 +92,29 @@ module _ (limits : List ℕ) (z : Sizes) (r : List ℕ) (w : Whole limits z r) w
       off-kept limits z r w (marked (offOf r) d)
       (within-marked (offOf r) (legalDrives z) d (w .range .off) (drive-legal z (w .range .row .fit) d a))
 
-  pub ruled-kept : (st : Step) → placesFit z st ≡ true → commandFits limits st ≡ true → Whole limits z (settled z r (ruled z r st))
-  unfolding ruled
-  ruled-kept st e f = view-kept (viewOf st) (ruling (ruleAt z r st)) (in-view z st e) (rule-keeps st e f)
+  pub effect-kept : (st : Step) → placesFit z st ≡ true → commandFits limits st ≡ true → Whole limits z (settled z r (effectOf z r st))
+  unfolding effectOf
+  effect-kept st e f = view-kept (viewOf st) (ruling (ruleAt z r st)) (in-view z st e) (rule-keeps st e f)
 
-whole-of : (r : List ℕ) → inRange (limitsOf r) r ≡ true → Whole (limitsOf r) (sizesOf r) r
-whole-of r e = record { range = range-says (limitsOf r) r e; sizes = refl }
+whole-of : (r : List ℕ) → inRange r ≡ true → Whole (limitsOf r) (sizesOf r) r
+whole-of r e = record { range = range-says r e; sizes = refl }
 
 -- a room in range is left in range, with its sizes and its length
-pub step-whole : (r : List ℕ) (st : Step) → inRange (limitsOf r) r ≡ true → Whole (limitsOf r) (sizesOf r) (stepped r st)
+pub step-whole : (r : List ℕ) (st : Step) → inRange r ≡ true → Whole (limitsOf r) (sizesOf r) (stepped r st)
 unfolding stepped settled
 step-whole r st i =
     by-checks r st (λ (e : Effect). Whole (limitsOf r) (sizesOf r) (settled (sizesOf r) r e))
     (λ a. whole-of r i)
     (λ a b. whole-of r i)
     (λ a b c. whole-of r i)
-    (λ a b c. ruled-kept (limitsOf r) (sizesOf r) r (whole-of r i) st b c)
+    (λ a b c. effect-kept (limitsOf r) (sizesOf r) r (whole-of r i) st b c)
 
-pub step-in-range : (r : List ℕ) (st : Step) → inRange (limitsOf r) r ≡ true → inRange (limitsOf (stepped r st)) (stepped r st) ≡ true
+pub step-in-range : (r : List ℕ) (st : Step) → inRange r ≡ true → inRange (stepped r st) ≡ true
 step-in-range r st i =
     let w = step-whole r st i in
-    says-range (limitsOf r) (sizesOf r) (stepped r st) (sym (w .sizes)) (w .range)
+    says-range (limitsOf r) (sizesOf r) (stepped r st) refl (sym (w .sizes)) (w .range)
 
-pub step-length : (r : List ℕ) (st : Step) → inRange (limitsOf r) r ≡ true → length (stepped r st) ≡ length r
+pub step-length : (r : List ℕ) (st : Step) → inRange r ≡ true → length (stepped r st) ≡ length r
 step-length r st i =
     let w = step-whole r st i in
     w .range .row .exact ∙ sym (whole-of r i .range .row .exact)

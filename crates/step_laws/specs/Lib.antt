@@ -1,3 +1,5 @@
--- The slots of a room, seen as the machine of one slot sees them, and which slots a step concerns.
-pub mod Slots
+-- What the laws of a step are stated with.
+-- which slots a step may change
+pub mod Concerns
+-- the refusals that a step can get
 pub mod Refusals

@@ -7,14 +7,13 @@ use Rattle.quorum.specs.Marks.{stands, marked}
 use Rattle.quorum.specs.Sets.{allBelow, size, gathered, majority, within}
 use Rattle.synod.specs.Arguments.{placesFit, commandFits}
 use Rattle.synod.specs.Changes.{meeting, marking, topping, recalling, rejoining, bidding, writing, reading, proposing, committing}
-use Rattle.synod.specs.Rules as machine
 use Rattle.checks.specs.Checks.{must}
-use Rattle.synod.specs.Rules.{finishRule, offerRule, outbidRule, readRule, recallRule, rejoinRule, writeRule}
+use Rattle.synod.specs.Rules.{ruleOf, finishRule, offerRule, outbidRule, readRule, recallRule, rejoinRule, writeRule}
 use Rattle.layout.specs.Places.{slotLength, roomLength, slotAt, serverAt, nthBlockAt, blockAt, sizesFit}
 use Rattle.layout.specs.Cells.{serverOf, putServer, blockOf, putBlock}
 use Rattle.range.specs.Range.{legalDrives, legalReads, valueFits, numbersFit, serverFits, blockFits, serversFit, blocksFit, slotFits, cellsFit, inRange}
 use Rattle.room.specs.Open.{openedCells, opening, opened}
-use Rattle.room.specs.Judge.{check, ruled, judged}
+use Rattle.room.specs.Judge.{effectOf, stepChecks, judged}
 use Rattle.room.specs.Step.{failedBelow, settled, answered, stepped}
 use Rattle.catalogue.specs.Call as call
 use Rattle.catalogue.specs.Call.{entriesOf, catalogueOf, catalogueCells}
@@ -37,7 +36,7 @@ unfolding survivor rivals gap newRoom sameAnswer follows stepsOf ran onesIn ones
     must offerRule recallRule rejoinRule writeRule outbidRule readRule finishRule
     slotLength roomLength slotAt serverAt nthBlockAt blockAt sizesFit serverOf putServer blockOf putBlock
     legalDrives legalReads valueFits numbersFit serverFits blockFits serversFit blocksFit slotFits cellsFit inRange
-    openedCells opening opened check ruled machine.ruleOf judged failedBelow settled answered stepped
+    openedCells openChecks opening opened stepChecks effectOf ruleOf judged failedBelow settled answered stepped
     applies entry cellsAfter skippedBy folded outputAt leading outputsOf entriesOf call.must catalogueOf catalogueCells
     eventsOf said commandsOf firstOutput outputBy moveOf
 computed = (
