@@ -1,7 +1,7 @@
 -- A whole list of steps from a moment: one path of machine states for each slot, every command offered before it is
 -- output, and at every moment every output equal to the first one of the whole run.
 use Prim.Native.Nat.{ℕ, _<_}
-use mathlib.Core.Path.{_≡_, _∙_, sym, ap, subst}
+use mathlib.Core.Path.{_≡_, refl, _∙_, sym, ap, subst}
 use mathlib.Core.Bool.{true}
 use mathlib.Core.List.{List, [], _∷_}
 use Rattle.state.specs.declared.Answer.{Answer}
@@ -97,7 +97,7 @@ module _ (z : Sizes) where
 
   -- a room of a run, whose outputs are those of the list first
   pub record Shown (first : ℕ → ℕ) (room : List ℕ) : Type 0 where
-    pub range : inRange (limitsOf room) room ≡ true
+    pub range : inRange room ≡ true
     pub sizes : sizesOf room ≡ z
     pub outputs
         : (t p : ℕ) → t < z .slots → p < z .servers → (outputOf (serverOf z room t p) ≡ 0 → ⊥)
@@ -119,7 +119,7 @@ module _ (z : Sizes) where
       → ((t : ℕ) → t < z .slots → first t ≡ orElse (firstCommand (g t .commits)) (later t)) → Shown first cells
   shown-now cells g σ now first later e =
       record {
-        range = says-range (limitsOf cells) z cells (sym (now .whole .sizes)) (now .whole .range);
+        range = says-range (limitsOf cells) z cells refl (sym (now .whole .sizes)) (now .whole .range);
         sizes = now .whole .sizes;
         outputs =
             λ t p h l n.

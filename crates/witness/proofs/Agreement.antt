@@ -9,7 +9,7 @@ use Rattle.state.specs.declared.Step.{Step}
 use Rattle.synod.specs.Slot.{updated}
 use Rattle.room.specs.Step.{answered, stepped}
 use Rattle.history.specs.Run.{Move, Offers, Chooses, Fails, Rests, moveOf, Always}
-use Rattle.history.specs.Machine.{Machine, atFirst, withOutput, withoutServer, Choose, Makes, Equal, Follows, ends, goes}
+use Rattle.history.specs.Machine.{Machine, atFirst, afterChoose, afterFail, Choose, Makes, Equal, Follows, ends, goes}
 use Rattle.register.specs.OneHistory.{OneHistory}
 use Rattle.witness.specs.Agreement.{AllOutput, Agree}
 
@@ -23,7 +23,7 @@ record Later (m n : Machine) : Type 0 where
   stays : (m .chosen ≡ 0 → ⊥) → n .chosen ≡ m .chosen
 
 module _ (m : Machine) (s : Sound m) where
-  failing : (p : ℕ) → Later m (withoutServer m p)
+  failing : (p : ℕ) → Later m (afterFail m p)
   unfolding updated
   failing p =
       record {
@@ -32,7 +32,7 @@ module _ (m : Machine) (s : Sound m) where
         stays = λ n. refl;
       }
 
-  choosing : (p : ℕ) (n : Machine) (c : Choose m p n) → Later m (withOutput m p (c .choice))
+  choosing : (p : ℕ) (n : Machine) (c : Choose m p n) → Later m (afterChoose m p (c .choice))
   unfolding updated
   choosing p n c =
       record {
