@@ -65,6 +65,42 @@ put-at r at xs i h l =
     ∙ ap (λ (j : ℕ). getD (putFrom r at 0 xs) j 0) e
     ∙ from-at xs r at 0 i h (omega arith)
 
+-- what was stored at a place is read there
+pub put-server : (r : List ℕ) (at : ℕ) (v : Server) → at + serverLength ≤ length r → serverIn (put r at (serverCells v)) at ≡ v
+put-server r at v h =
+    let xs = serverCells v in
+    let f = ap (λ (j : ℕ). getD (put r at xs) j 0) (sym (add-zero at)) ∙ put-at r at xs 0 (omega arith) h in
+    let a = put-at r at xs 1 (omega arith) h in
+    let b = put-at r at xs 2 (omega arith) h in
+    let c = put-at r at xs 3 (omega arith) h in
+    let d = put-at r at xs 4 (omega arith) h in
+    let e = put-at r at xs 5 (omega arith) h in
+    let g = put-at r at xs 6 (omega arith) h in
+    let k = put-at r at xs 7 (omega arith) h in
+    let l = put-at r at xs 8 (omega arith) h in
+    let m = put-at r at xs 9 (omega arith) h in
+    λ i.
+    record {
+      phase = f i;
+      mbal = a i;
+      bal = b i;
+      inp = c i;
+      offer = d i;
+      top = e i;
+      seenbal = g i;
+      seeninp = k i;
+      written = l i;
+      read = m i;
+    }
+
+pub put-block : (r : List ℕ) (at : ℕ) (b : Block) → at + blockLength ≤ length r → blockIn (put r at (blockCells b)) at ≡ b
+put-block r at b h =
+    let xs = blockCells b in
+    let f = ap (λ (j : ℕ). getD (put r at xs) j 0) (sym (add-zero at)) ∙ put-at r at xs 0 (omega arith) h in
+    let a = put-at r at xs 1 (omega arith) h in
+    let c = put-at r at xs 2 (omega arith) h in
+    λ i. record { mbal = f i; bal = a i; inp = c i }
+
 -- two rows have the same n cells from a place on
 unfoldable pub Same : List ℕ → List ℕ → ℕ → ℕ → Type 0
 Same r t at n = (i : ℕ) → i < n → getD r (at + i) 0 ≡ getD t (at + i) 0
@@ -115,39 +151,3 @@ unfolding Same Apart
 apart-same r at xs b n h i l =
     put-outside r at xs (b + i)
     (⊎-elim (λ e. mathlib.Core.Logic.inr (omega arith)) (λ e. mathlib.Core.Logic.inl (omega arith)) h)
-
--- what was stored at a place is read there
-pub put-server : (r : List ℕ) (at : ℕ) (v : Server) → at + serverLength ≤ length r → serverIn (put r at (serverCells v)) at ≡ v
-put-server r at v h =
-    let xs = serverCells v in
-    let f = ap (λ (j : ℕ). getD (put r at xs) j 0) (sym (add-zero at)) ∙ put-at r at xs 0 (omega arith) h in
-    let a = put-at r at xs 1 (omega arith) h in
-    let b = put-at r at xs 2 (omega arith) h in
-    let c = put-at r at xs 3 (omega arith) h in
-    let d = put-at r at xs 4 (omega arith) h in
-    let e = put-at r at xs 5 (omega arith) h in
-    let g = put-at r at xs 6 (omega arith) h in
-    let k = put-at r at xs 7 (omega arith) h in
-    let l = put-at r at xs 8 (omega arith) h in
-    let m = put-at r at xs 9 (omega arith) h in
-    λ i.
-    record {
-      phase = f i;
-      mbal = a i;
-      bal = b i;
-      inp = c i;
-      offer = d i;
-      top = e i;
-      seenbal = g i;
-      seeninp = k i;
-      written = l i;
-      read = m i;
-    }
-
-pub put-block : (r : List ℕ) (at : ℕ) (b : Block) → at + blockLength ≤ length r → blockIn (put r at (blockCells b)) at ≡ b
-put-block r at b h =
-    let xs = blockCells b in
-    let f = ap (λ (j : ℕ). getD (put r at xs) j 0) (sym (add-zero at)) ∙ put-at r at xs 0 (omega arith) h in
-    let a = put-at r at xs 1 (omega arith) h in
-    let c = put-at r at xs 2 (omega arith) h in
-    λ i. record { mbal = f i; bal = a i; inp = c i }

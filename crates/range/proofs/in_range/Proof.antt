@@ -6,8 +6,8 @@ use Prim.Native.Nat.{ℕ}
 use mathlib.Core.Path.{_≡_, _∙_, sym, ap}
 use mathlib.Core.Bool.{true}
 use mathlib.Core.List.{List}
+use native.Mathlib.Omega.{arith}
 use borrow.Author.Tests.{not-true, not-false, eq-eqb, ne-eqb}
-use lib.Dec.{eqb}
 use lib.ListN.{length}
 use Rattle.quorum.specs.Sets.{within}
 use Rattle.state.specs.declared.Sizes.{Sizes}
@@ -43,7 +43,7 @@ abbrev fitting : tie.Else3 → tie.Else2
 fitting c = c .before .before
 
 exact : (c : tie.Else3) → length (row (sized (fitting c))) ≡ roomLength (sizes (sized (fitting c)))
-exact c = c .if3 .left ∙ c .before .room-length .ensures
+exact c = omega (arith, c .if3 .left, c .before .room-length .ensures)
 
 abbrev long : tie.After-only-legal → tie.Else3
 long c = c .before .before .before
@@ -52,8 +52,10 @@ off
     : (c : tie.After-only-legal)
     → c .only-legal .result ≡ within (offOf (row (sized (fitting (long c))))) (legalDrives (sizes (sized (fitting (long c)))))
 off c =
-    c .only-legal .ensures
-    ∙ ap (λ (k : Masks). within (offOf (row (sized (fitting (long c))))) (k .drives)) (c .before .before .masks-of .ensures)
+    let marks = offOf (row (sized (fitting (long c)))) in
+    let masks = c .before .before .masks-of in
+    let judged : c .only-legal .result ≡ within marks (masks .result .drives) = c .only-legal .ensures in
+    judged ∙ ap (λ (k : Masks). within marks (k .drives)) (masks .ensures)
 
 returns : tie.Need-returns
 returns c = sym (short-row (c .before .before .args .room .now) (c .if1 .taken))
@@ -78,10 +80,8 @@ room-length-requires c κs = fit-of (sizes (sized c)) (fits c)
 returns-3 : tie.Need-returns-3
 returns-3 c =
     let s = sized (c .before .before) in
-    sym
-    (claimed s
-    ∙ no-length (limits s) (sizes s) (row s)
-    (ap (λ (n : ℕ). eqb (length (row s)) n) (sym (c .before .room-length .ensures)) ∙ ne-eqb _ _ (c .if3 .taken)))
+    let other = ne-eqb (length (row s)) (roomLength (sizes s)) (λ e. omega (arith, c .if3 .taken, c .before .room-length .ensures)) in
+    sym (claimed s ∙ no-length (limits s) (sizes s) (row s) other)
 
 masks-of-requires : tie.Need-masks-of-requires
 masks-of-requires c κs = fit-of (sizes (sized (fitting c))) (fits (fitting c))

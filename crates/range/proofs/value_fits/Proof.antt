@@ -7,19 +7,14 @@ use Rattle.range.specs.Range.{valueFits}
 
 returns : tie.Need-returns
 unfolding valueFits
-returns c =
-    let at-if1 = c .if1 in
-    simp (eq-eqb _ _ (at-if1 .taken))
+returns c = simp (eq-eqb (c .before .args .v) 0 (c .if1 .taken))
 
 is-command-requires : tie.Need-is-command-requires
 is-command-requires c κs = search needs
 
 returns-2 : tie.Need-returns-2
 unfolding valueFits
-returns-2 c =
-    let at-if1 = c .before .if1 in
-    let at-is-command = c .is-command in
-    simp (ne-eqb _ _ (at-if1 .left), at-is-command .ensures)
+returns-2 c = simp (ne-eqb (c .before .before .args .v) 0 (c .before .if1 .left), c .is-command .ensures)
 
 pub value-fits-spec : {M : Type 1} → statement M
 value-fits-spec = tie.close (tie.spec returns is-command-requires returns-2)
