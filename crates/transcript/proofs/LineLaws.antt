@@ -1,12 +1,12 @@
 -- What room for a line means, the parts of a line in the order of the code, and that no line is longer than lineMax.
 use Prim.Native.Nat.{ℕ, _+_, _-_, _^_, _≤_, _<_}
 use native.Mathlib.Omega.{arith}
-use mathlib.Core.Path.{_≡_, _∙_, sym, ap}
+use mathlib.Core.Path.{_≡_, _∙_, sym, ap, subst}
 use mathlib.Core.Bool.{Bool, true, false, not, cond}
 use mathlib.Core.List.{List, _++_, append-assoc}
 use lib.ListN.{length, length-append}
 use lib.Dec.{leb}
-use borrow.Author.Tests.{le-leb, lt-leb, leb-true, leb-false, not-true, not-false}
+use borrow.Author.Tests.{le-leb, lt-leb, leb-true, leb-false, not-true}
 use Rattle.lemmas.proofs.Tests.{by-test, same-test}
 use Rattle.state.specs.declared.Answer.{Answer}
 use Rattle.state.specs.declared.Answer.the-variants.{Done, Outbid, Chosen, Committed, Refused}
@@ -27,24 +27,23 @@ room-left size at h =
     (λ e. le-leb (at + lineMax) size (omega (arith, leb-true at (size - lineMax) e)))
     (λ e. le-leb at (size - lineMax) (omega (arith, leb-true (at + lineMax) size e)))
 
--- what an answer r to that test says: room for the longest line, a line put into it, or nothing done
-pub room-for : (size at : ℕ) {r : Bool} → r ≡ hasRoom size at → not r ≡ false → at + lineMax ≤ size
+-- what that test says: room for the longest line, a line put into it, or, where the answer r is no, nothing done
+pub room-for : (size at : ℕ) → hasRoom size at ≡ true → at + lineMax ≤ size
 unfolding hasRoom
-room-for size at {r} e f = leb-true (at + lineMax) size (sym e ∙ not-false r f)
+room-for size at e = leb-true (at + lineMax) size e
 
 pub printed
-    : {l m : List ℕ} {at next : ℕ} {line : List ℕ} {r : Bool} → r ≡ hasRoom (length l) at → not r ≡ false
-    → Put l at line m next → Printed l at line m next
-printed {l} {m} {at} {next} {line} {r} e f p =
-    let room : hasRoom (length l) at ≡ true = sym e ∙ not-false r f in
+    : {l m : List ℕ} {at next : ℕ} {line : List ℕ} → hasRoom (length l) at ≡ true → Put l at line m next
+    → Printed l at line m next
+printed {l} {m} {at} {next} {line} room p =
     record {
       place = p .place ∙ sym (ap (λ (b : Bool). cond b (at + length line) at) room);
       contents = p .contents ∙ sym (ap (λ (b : Bool). cond b (placed l at line) l) room);
     }
 
 pub unprinted
-    : (l : List ℕ) (at : ℕ) (line : List ℕ) {r : Bool} → r ≡ hasRoom (length l) at → not r ≡ true → Printed l at line l at
-unprinted l at line {r} e f =
+    : {l line : List ℕ} {at : ℕ} {r : Bool} → r ≡ hasRoom (length l) at → not r ≡ true → Printed l at line l at
+unprinted {l} {line} {at} {r} e f =
     let none : hasRoom (length l) at ≡ false = sym e ∙ not-true r f in
     record {
       place = sym (ap (λ (b : Bool). cond b (at + length line) at) none);
@@ -87,12 +86,14 @@ regrouped : (a b c d e f g : List ℕ) → (a ++ b) ++ (c ++ d) ++ (e ++ f) ++ g
 regrouped a b c d e f g = simp append-assoc
 
 pub server-parts
-    : (server taken skipped : ℕ)
-    → (bytes "server " ++ digits server) ++ (bytes " taken " ++ digits taken) ++ (bytes " skipped " ++ digits skipped) ++ bytes "\n"
-    ≡ serverLine server taken skipped
+    : (server taken skipped : ℕ) {l m : List ℕ} {at next : ℕ}
+    → Printed l at ((bytes "server " ++ digits server) ++ (bytes " taken " ++ digits taken) ++ (bytes " skipped " ++ digits skipped) ++ bytes "\n") m next
+    → Printed l at (serverLine server taken skipped) m next
 unfolding serverLine
-server-parts server taken skipped =
-    regrouped (bytes "server ") (digits server) (bytes " taken ") (digits taken) (bytes " skipped ") (digits skipped) (bytes "\n")
+server-parts server taken skipped {l} {m} {at} {next} p =
+    subst (λ (line : List ℕ). Printed l at line m next)
+    (regrouped (bytes "server ") (digits server) (bytes " taken ") (digits taken) (bytes " skipped ") (digits skipped) (bytes "\n"))
+    p
 
 -- no line is longer than lineMax
 word-length : (a : Answer) → length (wordOf a) ≤ 9

@@ -53,6 +53,9 @@ put-then {l} {m} {n} {at} {i} {j} {a} {b} h p q =
           ∙ placed-more l at a b (omega (arith, p .place, q .place));
     }
 
+pub length-put : {l m : List ℕ} {at i : ℕ} {a : List ℕ} → Put l at a m i → i ≤ length l → length m ≡ length l
+length-put {l} {m} {at} {i} {a} p h = ap length (p .contents) ∙ length-placed l at a (omega (arith, p .place))
+
 -- the loop that copies a text: nothing yet, one byte more, all of it
 pub put-next
     : {l m : List ℕ} {at : ℕ} (text : List ℕ) (i : ℕ) → at + length text ≤ length l → i < length text → length m ≡ length l

@@ -1,59 +1,46 @@
--- `transcript::open_line` meets its contract.
+-- `transcript::open_line` meets its contract: the number with its label and the line's end follow each other.
 use borrow.Author.Needs.{needs}
 use Rattle.transcript.proofs.open_line.Statement.{statement}
 use Rattle.transcript.proofs.open_line.Tie as tie
 use native.Mathlib.Omega.{arith}
-use Prim.Native.Nat.{_≤_}
-use lib.ListN.{length}
-use Rattle.transcript.specs.Lines.{openLine}
-use Rattle.transcript.proofs.PutLaws.{put-then}
-use Rattle.transcript.proofs.LineLaws.{room-for, printed, unprinted}
+use Rattle.transcript.specs.Lines.{openLine, lineMax}
+use Rattle.transcript.proofs.Begun.{Begun, begins, then, ends}
+use Rattle.transcript.proofs.LineLaws.{unprinted}
 
 has-room-requires : tie.Need-has-room-requires
 has-room-requires c κs = search needs
 
 returns : tie.Need-returns
-returns c =
-    let at-args = c .before .before .before .args in
-    let at-has-room = c .before .has-room in
-    let at-if1 = c .if1 in
-    unprinted (at-args .out .now) (at-args .at) (openLine (at-args .number)) (at-has-room .ensures) (at-if1 .taken)
+returns c = unprinted (c .before .has-room .ensures) (c .if1 .taken)
+
+-- the line as it grows, and how many bytes have room after each part: the longest line first, the number, the end
+abbrev opened : (c : tie.Else1) → Begun (c .before .before .before .args .out .now) (c .before .before .before .args .at) lineMax
+opened c = begins _ _ (c .before .has-room .ensures) (c .if1 .left)
+
+abbrev told : (c : tie.After-put-field) → Begun (c .put-field .last .0) (c .put-field .result) 1
+told c = then (opened (c .before .before .before)) (c .put-field .ensures .0) (omega (arith, c .put-field .ensures .1))
+
+abbrev whole : (c : tie.After-put) → Begun (c .put .last .0) (c .put .result) 0
+whole c = then (told (c .before .before .before .before .before)) (c .put .ensures) (omega (arith, c .put .ensures .place))
 
 slice-aggregate-put-field : tie.Need-slice-aggregate-put-field
 slice-aggregate-put-field c = search needs
 
 put-field-requires : tie.Need-put-field-requires
-put-field-requires c κs =
-    let at-args = c .before .before .before .before .before .args in
-    let at-has-room = c .before .before .before .has-room in
-    let at-if1 = c .before .before .if1 in
-    omega (arith, room-for (length (at-args .out .now)) (at-args .at) (at-has-room .ensures) (at-if1 .left))
+put-field-requires c κs = omega (arith, opened (c .before .before) .room)
 
 slice-aggregate-put : tie.Need-slice-aggregate-put
 slice-aggregate-put c = search needs
 
 put-requires : tie.Need-put-requires
-put-requires c κs =
-    let at-args = c .before .before .before .before .before .before .before .before .before .before .args in
-    let at-has-room = c .before .before .before .before .before .before .before .before .has-room in
-    let at-if1 = c .before .before .before .before .before .before .before .if1 in
-    let at-put-field = c .before .before .before .before .put-field in
-    omega (arith, room-for (length (at-args .out .now)) (at-args .at) (at-has-room .ensures) (at-if1 .left), at-put-field .ensures .1, at-put-field .kept .0)
+put-requires c κs = told (c .before .before .before .before) .room
 
 same-length : tie.Need-same-length
 same-length c = search needs
 
 returns-2 : tie.Need-returns-2
 unfolding openLine
-returns-2 c =
-    let at-args = c .before .before .before .before .before .before .before .before .before .before .before .before .before .args in
-    let at-has-room = c .before .before .before .before .before .before .before .before .before .before .before .has-room in
-    let at-if1 = c .before .before .before .before .before .before .before .before .before .before .if1 in
-    let at-put-field = c .before .before .before .before .before .before .before .put-field in
-    let at-put = c .before .before .put in
-    let inside : at-put .result ≤ length (at-args .out .now) =
-    omega (arith, room-for (length (at-args .out .now)) (at-args .at) (at-has-room .ensures) (at-if1 .left), at-put-field .ensures .1, at-put .ensures .place) in
-    printed (at-has-room .ensures) (at-if1 .left) (put-then inside (at-put-field .ensures .0) (at-put .ensures))
+returns-2 c = ends (whole (c .before .before))
 
 pub open-line-spec : {M : Type 1} → statement M
 open-line-spec =

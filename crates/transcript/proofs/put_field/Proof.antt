@@ -12,28 +12,25 @@ use Rattle.transcript.proofs.PutLaws.{put-then}
 put-requires : tie.Need-put-requires
 put-requires c κs = search needs
 
+ten : (c : tie.Start) → length (digits (c .args .number)) ≤ 10
+ten c = digits-ten (c .args .number) (c .fits .number .fits)
+
 put-number-requires : tie.Need-put-number-requires
 put-number-requires c κs =
-    let at-args = c .before .before .before .before .before .before .before .args in
-    let at-fits = c .before .before .before .before .before .before .before .fits in
-    let at-put = c .before .before .before .put in
-    omega (arith, digits-ten (at-args .number) (at-fits .number .fits), at-put .ensures .place, at-put .kept .0)
+    let labelled = c .before .before .before in
+    omega (arith, ten (labelled .before .before .before .before), labelled .put .ensures .place, labelled .put .kept .0)
 
 same-length : tie.Need-same-length
 same-length c = search needs
 
 returns : tie.Need-returns
 returns c =
-    let at-args = c .before .before .before .before .before .before .before .before .before .before .args in
-    let at-fits = c .before .before .before .before .before .before .before .before .before .before .fits in
-    let at-pre = c .before .before .before .before .before .before .before .before .before .before .pre in
-    let at-put = c .before .before .before .before .before .before .put in
-    let at-put-number = c .before .before .put-number in
-    let ten : length (digits (at-args .number)) ≤ 10 = digits-ten (at-args .number) (at-fits .number .fits) in
-    let most : at-put-number .result ≤ at-args .at + length (at-args .label .now) + 10 =
-    omega (arith, at-put .ensures .place, at-put-number .ensures .place) in
-    let inside : at-put-number .result ≤ length (at-args .out .now) = omega (arith, at-pre) in
-    (put-then inside (at-put .ensures) (at-put-number .ensures), most)
+    let numbered = c .before .before in
+    let labelled = numbered .before .before .before .before in
+    let start = labelled .before .before .before .before in
+    let most : numbered .put-number .result ≤ start .args .at + length (start .args .label .now) + 10 =
+    omega (arith, ten start, labelled .put .ensures .place, numbered .put-number .ensures .place) in
+    (put-then (omega (arith, start .pre)) (labelled .put .ensures) (numbered .put-number .ensures), most)
 
 pub put-field-spec : {M : Type 1} → statement M
 put-field-spec = tie.close (tie.spec put-requires put-number-requires same-length returns)

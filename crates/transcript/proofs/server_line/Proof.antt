@@ -3,92 +3,61 @@ use borrow.Author.Needs.{needs}
 use Rattle.transcript.proofs.server_line.Statement.{statement}
 use Rattle.transcript.proofs.server_line.Tie as tie
 use native.Mathlib.Omega.{arith}
-use Prim.Native.Nat.{ℕ, _≤_}
-use mathlib.Core.Path.{subst}
-use mathlib.Core.List.{List}
-use lib.ListN.{length}
-use Rattle.transcript.specs.Lines.{serverLine, Printed}
-use Rattle.transcript.proofs.PutLaws.{put-then}
-use Rattle.transcript.proofs.LineLaws.{room-for, printed, unprinted, server-parts}
+use Rattle.transcript.specs.Lines.{lineMax}
+use Rattle.transcript.proofs.Begun.{Begun, begins, then, ends}
+use Rattle.transcript.proofs.LineLaws.{unprinted, server-parts}
 
 has-room-requires : tie.Need-has-room-requires
 has-room-requires c κs = search needs
 
 returns : tie.Need-returns
-returns c =
-    let at-args = c .before .before .before .args in
-    let at-has-room = c .before .has-room in
-    let at-if1 = c .if1 in
-    unprinted (at-args .out .now) (at-args .at) (serverLine (at-args .server) (at-args .taken) (at-args .skipped)) (at-has-room .ensures) (at-if1 .taken)
+returns c = unprinted (c .before .has-room .ensures) (c .if1 .taken)
+
+-- the line as it grows, and how many bytes have room after each part: the longest line first, the three numbers, the end
+abbrev opened : (c : tie.Else1) → Begun (c .before .before .before .args .out .now) (c .before .before .before .args .at) lineMax
+opened c = begins _ _ (c .before .has-room .ensures) (c .if1 .left)
+
+abbrev named : (c : tie.After-put-field) → Begun (c .put-field .last .0) (c .put-field .result) 37
+named c = then (opened (c .before .before .before)) (c .put-field .ensures .0) (omega (arith, c .put-field .ensures .1))
+
+abbrev counted : (c : tie.After-put-field2) → Begun (c .put-field2 .last .0) (c .put-field2 .result) 20
+counted c = then (named (c .before .before .before .before .before)) (c .put-field2 .ensures .0) (omega (arith, c .put-field2 .ensures .1))
+
+abbrev ended : (c : tie.After-put-field3) → Begun (c .put-field3 .last .0) (c .put-field3 .result) 1
+ended c = then (counted (c .before .before .before .before .before)) (c .put-field3 .ensures .0) (omega (arith, c .put-field3 .ensures .1))
+
+abbrev whole : (c : tie.After-put) → Begun (c .put .last .0) (c .put .result) 0
+whole c = then (ended (c .before .before .before .before .before)) (c .put .ensures) (omega (arith, c .put .ensures .place))
 
 slice-aggregate-put-field : tie.Need-slice-aggregate-put-field
 slice-aggregate-put-field c = search needs
 
 put-field-requires : tie.Need-put-field-requires
-put-field-requires c κs =
-    let at-args = c .before .before .before .before .before .args in
-    let at-has-room = c .before .before .before .has-room in
-    let at-if1 = c .before .before .if1 in
-    omega (arith, room-for (length (at-args .out .now)) (at-args .at) (at-has-room .ensures) (at-if1 .left))
+put-field-requires c κs = omega (arith, opened (c .before .before) .room)
 
 slice-aggregate-put-field-2 : tie.Need-slice-aggregate-put-field-2
 slice-aggregate-put-field-2 c = search needs
 
 put-field-requires-2 : tie.Need-put-field-requires-2
-put-field-requires-2 c κs =
-    let at-args = c .before .before .before .before .before .before .before .before .before .before .args in
-    let at-has-room = c .before .before .before .before .before .before .before .before .has-room in
-    let at-if1 = c .before .before .before .before .before .before .before .if1 in
-    let at-put-field = c .before .before .before .before .put-field in
-    omega (arith, room-for (length (at-args .out .now)) (at-args .at) (at-has-room .ensures) (at-if1 .left), at-put-field .ensures .1, at-put-field .kept .0)
+put-field-requires-2 c κs = omega (arith, named (c .before .before .before .before) .room)
 
 slice-aggregate-put-field-3 : tie.Need-slice-aggregate-put-field-3
 slice-aggregate-put-field-3 c = search needs
 
 put-field-requires-3 : tie.Need-put-field-requires-3
-put-field-requires-3 c κs =
-    let at-args = c .before .before .before .before .before .before .before .before .before .before .before .before .before .before .before .args in
-    let at-has-room = c .before .before .before .before .before .before .before .before .before .before .before .before .before .has-room in
-    let at-if1 = c .before .before .before .before .before .before .before .before .before .before .before .before .if1 in
-    let at-put-field = c .before .before .before .before .before .before .before .before .before .put-field in
-    let at-put-field2 = c .before .before .before .before .put-field2 in
-    omega (arith, room-for (length (at-args .out .now)) (at-args .at) (at-has-room .ensures) (at-if1 .left), at-put-field .ensures .1, at-put-field .kept .0, at-put-field2 .ensures .1, at-put-field2 .kept .0)
+put-field-requires-3 c κs = omega (arith, counted (c .before .before .before .before) .room)
 
 slice-aggregate-put : tie.Need-slice-aggregate-put
 slice-aggregate-put c = search needs
 
 put-requires : tie.Need-put-requires
-put-requires c κs =
-    let at-args = c .before .before .before .before .before .before .before .before .before .before .before .before .before .before .before .before .before .before .before .before .args in
-    let at-has-room = c .before .before .before .before .before .before .before .before .before .before .before .before .before .before .before .before .before .before .has-room in
-    let at-if1 = c .before .before .before .before .before .before .before .before .before .before .before .before .before .before .before .before .before .if1 in
-    let at-put-field = c .before .before .before .before .before .before .before .before .before .before .before .before .before .before .put-field in
-    let at-put-field2 = c .before .before .before .before .before .before .before .before .before .put-field2 in
-    let at-put-field3 = c .before .before .before .before .put-field3 in
-    omega (arith, room-for (length (at-args .out .now)) (at-args .at) (at-has-room .ensures) (at-if1 .left), at-put-field .ensures .1, at-put-field .kept .0, at-put-field2 .ensures .1, at-put-field2 .kept .0, at-put-field3 .ensures .1, at-put-field3 .kept .0)
+put-requires c κs = omega (arith, ended (c .before .before .before .before) .room)
 
 same-length : tie.Need-same-length
 same-length c = search needs
 
 returns-2 : tie.Need-returns-2
-returns-2 c =
-    let at-args = c .before .before .before .before .before .before .before .before .before .before .before .before .before .before .before .before .before .before .before .before .before .before .before .args in
-    let at-has-room = c .before .before .before .before .before .before .before .before .before .before .before .before .before .before .before .before .before .before .before .before .before .has-room in
-    let at-if1 = c .before .before .before .before .before .before .before .before .before .before .before .before .before .before .before .before .before .before .before .before .if1 in
-    let at-put-field = c .before .before .before .before .before .before .before .before .before .before .before .before .before .before .before .before .before .put-field in
-    let at-put-field2 = c .before .before .before .before .before .before .before .before .before .before .before .before .put-field2 in
-    let at-put-field3 = c .before .before .before .before .before .before .before .put-field3 in
-    let at-put = c .before .before .put in
-    let inside : at-put .result ≤ length (at-args .out .now) =
-    omega (arith, room-for (length (at-args .out .now)) (at-args .at) (at-has-room .ensures) (at-if1 .left), at-put-field .ensures .1, at-put-field2 .ensures .1, at-put-field3 .ensures .1, at-put .ensures .place) in
-    let ended : at-put-field3 .result ≤ length (at-args .out .now) = omega (arith, at-put .ensures .place) in
-    let counted : at-put-field2 .result ≤ length (at-args .out .now) = omega (arith, at-put-field3 .ensures .0 .place) in
-    subst (λ (line : List ℕ). Printed (at-args .out .now) (at-args .at) line (at-put .last .0) (at-put .result))
-    (server-parts (at-args .server) (at-args .taken) (at-args .skipped))
-    (printed (at-has-room .ensures) (at-if1 .left)
-    (put-then inside
-    (put-then ended (put-then counted (at-put-field .ensures .0) (at-put-field2 .ensures .0)) (at-put-field3 .ensures .0))
-    (at-put .ensures)))
+returns-2 c = server-parts _ _ _ (ends (whole (c .before .before)))
 
 pub server-line-spec : {M : Type 1} → statement M
 server-line-spec =
