@@ -27,13 +27,12 @@ applies-requires c κs = search needs
 
 returns : tie.Need-returns
 returns c =
-    let at-args = c .before .before .before .before .before .before .args in
-    let at-kind = c .before .before .before .kind in
-    let at-piece = c .before .before .before .before .piece in
-    let at-applies = c .before .applies in
-    let at-if1 = c .if1 in
-    left-alone (at-args .out .now) (at-args .command) (at-kind .result) (at-piece .result) (at-kind .ensures) (at-piece .ensures)
-    (sym (at-applies .ensures) ∙ not-true _ (at-if1 .taken))
+    let asked = c .before in
+    let a = asked .before .before .before .before .before .args in
+    let kind = asked .before .before .kind in
+    let piece = asked .before .before .before .piece in
+    left-alone (a .out .now) (a .command) (kind .result) (piece .result) (kind .ensures) (piece .ensures)
+    (sym (asked .applies .ensures) ∙ not-true _ (c .if1 .taken))
 
 hoard-requires : tie.Need-hoard-requires
 hoard-requires c κs = search needs
@@ -52,16 +51,13 @@ same-length c = search needs
 
 returns-2 : tie.Need-returns-2
 returns-2 c =
-    let at-args = c .before .before .before .before .before .before .before .before .args in
-    let at-kind = c .before .before .before .before .before .kind in
-    let at-piece = c .before .before .before .before .before .before .piece in
-    let at-changed = c .changed in
-    let at-applies = c .before .before .before .applies in
-    let at-if1 = c .before .before .if1 in
-    let at-hoard = c .before .hoard in
-    set-anew (at-args .out .now) (at-args .command) (at-kind .result) (at-piece .result) (at-kind .ensures) (at-piece .ensures)
-    (at-changed .result) (sym (at-applies .ensures) ∙ not-false _ (at-if1 .left))
-    (at-changed .ensures ∙ ap₂ changed (at-kind .ensures) (at-hoard .ensures))
+    let asked = c .before .before .before in
+    let a = asked .before .before .before .before .before .args in
+    let kind = asked .before .before .kind in
+    let piece = asked .before .before .before .piece in
+    set-anew (a .out .now) (a .command) (kind .result) (piece .result) (kind .ensures) (piece .ensures) (c .changed .result)
+    (sym (asked .applies .ensures) ∙ not-false _ (c .before .before .if1 .left))
+    (c .changed .ensures ∙ ap₂ changed (kind .ensures) (c .before .hoard .ensures))
 
 pub apply-spec : {M : Type 1} → statement M
 apply-spec =

@@ -11,7 +11,6 @@ use lib.ListN.{length, replicate}
 use borrow.Author.Tests.{not-true, not-false}
 use Rattle.command.specs.Command.{cabinetLimits}
 use Rattle.state.specs.declared.Sizes.{Sizes}
-use Rattle.layout.specs.Cells.{sizesOf}
 use Rattle.range.specs.Range.{inRange}
 use Rattle.catalogue.specs.Fold.{pieces}
 use Rattle.catalogue.specs.Call.{Listable, counted, entriesOf, catalogueOf, catalogueCells}
@@ -25,36 +24,58 @@ judged
     → inRange cabinetLimits room ≡ x
 judged room e f g = ap (λ (l : List ℕ). inRange l room) (sym e) ∙ sym f ∙ g
 
--- what the rest of the call has, with the sizes as they were read
-module _ (room : List ℕ) (z : Sizes) (e : z ≡ sizesOf room) (server : ℕ) (range : inRange cabinetLimits room ≡ true) where
+-- past the first two checks: where the call began, that the row is in range, and that the cells lent are 64
+abbrev start : tie.Else2 → tie.Start
+start c = c .before .before .before .before .before .before .before
+
+range : (c : tie.Else2) → inRange cabinetLimits (start c .args .room .now) ≡ true
+range c = judged (start c .args .room .now) (c .before .before .before .limits .ensures) (c .before .in-range .ensures) (not-false _ (c .if2 .left))
+
+exact : (c : tie.Else2) → length (start c .args .out .now) ≡ pieces
+exact c = c .before .before .before .before .if1 .left
+
+-- its sizes are read: what follows where the server is one of them, and where it is not
+module _ (c : tie.After-sizes) where
+  abbrev room : List ℕ
+  room = start (c .before) .args .room .now
+
+  abbrev out : List ℕ
+  out = start (c .before) .args .out .now
+
+  abbrev server : ℕ
+  server = start (c .before) .args .server
+
+  abbrev z : Sizes
+  z = c .sizes .result
+
   small : server < z .servers → server < 4
-  small h = omega (arith, room-servers cabinetLimits room range, ap (λ (y : Sizes). y .servers) e)
+  small h = omega (arith, room-servers cabinetLimits room (range (c .before)), ap (λ (y : Sizes). y .servers) (c .sizes .ensures))
 
   ready : server < z .servers → Listable z room server
   ready h =
-      subst (λ (y : Sizes). Listable y room server) (sym e)
-      (listable cabinetLimits room range server (subst (λ (y : Sizes). server < y .servers) e h))
+      subst (λ (y : Sizes). Listable y room server) (sym (c .sizes .ensures))
+      (listable cabinetLimits room (range (c .before)) server (subst (λ (y : Sizes). server < y .servers) (c .sizes .ensures) h))
 
-  module _ (out : List ℕ) (l : length out ≡ pieces) where
-    refused
-        : z .servers ≤ server
-        → (Refused 4 ≡ catalogueOf cabinetLimits room server out) × (out ≡ catalogueCells cabinetLimits room server out)
-    refused h = no-server cabinetLimits room server out l range (subst (λ (y : Sizes). y .servers ≤ server) e h)
+  refused
+      : z .servers ≤ server
+      → (Refused 4 ≡ catalogueOf cabinetLimits room server out) × (out ≡ catalogueCells cabinetLimits room server out)
+  refused h =
+      no-server cabinetLimits room server out (exact (c .before)) (range (c .before))
+      (subst (λ (y : Sizes). y .servers ≤ server) (c .sizes .ensures) h)
 
-    listed
-        : (r : Listing) (new : List ℕ) → server < z .servers → r ≡ counted z room server → new ≡ entriesOf z room server .cells
-        → (r ≡ catalogueOf cabinetLimits room server out) × (new ≡ catalogueCells cabinetLimits room server out)
-    listed r new h f g =
-        let a = accepts cabinetLimits room server out l range (subst (λ (y : Sizes). server < y .servers) e h) in (
-          f ∙ ap (λ (y : Sizes). counted y room server) e ∙ a .0,
-          g ∙ ap (λ (y : Sizes). entriesOf y room server .cells) e ∙ a .1,
-        )
+  listed
+      : (r : Listing) (new : List ℕ) → server < z .servers → r ≡ counted z room server → new ≡ entriesOf z room server .cells
+      → (r ≡ catalogueOf cabinetLimits room server out) × (new ≡ catalogueCells cabinetLimits room server out)
+  listed r new h f g =
+      let a = accepts cabinetLimits room server out (exact (c .before)) (range (c .before)) (subst (λ (y : Sizes). server < y .servers) (c .sizes .ensures) h) in (
+        f ∙ ap (λ (y : Sizes). counted y room server) (c .sizes .ensures) ∙ a .0,
+        g ∙ ap (λ (y : Sizes). entriesOf y room server .cells) (c .sizes .ensures) ∙ a .1,
+      )
 
 returns : tie.Need-returns
 returns c =
-    let at-args = c .before .before .before .args in
-    let at-if1 = c .if1 in
-    wrong-length cabinetLimits (at-args .room .now) (at-args .server) (at-args .out .now) (at-if1 .taken)
+    let a = c .before .before .before .args in
+    wrong-length cabinetLimits (a .room .now) (a .server) (a .out .now) (c .if1 .taken)
 
 limits-requires : tie.Need-limits-requires
 limits-requires c κs = search needs
@@ -64,86 +85,38 @@ in-range-requires c κs = search needs
 
 returns-2 : tie.Need-returns-2
 returns-2 c =
-    let at-args = c .before .before .before .before .before .before .before .args in
-    let at-if1 = c .before .before .before .before .if1 in
-    let at-limits = c .before .before .before .limits in
-    let at-in-range = c .before .in-range in
-    let at-if2 = c .if2 in
-    out-of-range cabinetLimits (at-args .room .now) (at-args .server) (at-args .out .now) (at-if1 .left)
-    (judged (at-args .room .now) (at-limits .ensures) (at-in-range .ensures) (not-true _ (at-if2 .taken)))
+    let a = c .before .before .before .before .before .before .before .args in
+    out-of-range cabinetLimits (a .room .now) (a .server) (a .out .now) (c .before .before .before .before .if1 .left)
+    (judged (a .room .now) (c .before .before .before .limits .ensures) (c .before .in-range .ensures) (not-true _ (c .if2 .taken)))
 
 sizes-requires : tie.Need-sizes-requires
-sizes-requires c κs =
-    let at-args = c .before .before .before .before .before .before .before .args in
-    let at-limits = c .before .before .before .limits in
-    let at-in-range = c .before .in-range in
-    let at-if2 = c .if2 in
-    room-head cabinetLimits (at-args .room .now)
-    (judged (at-args .room .now) (at-limits .ensures) (at-in-range .ensures) (not-false _ (at-if2 .left)))
+sizes-requires c κs = room-head cabinetLimits (start c .args .room .now) (range c)
 
 returns-3 : tie.Need-returns-3
-returns-3 c =
-    let at-args = c .before .before .before .before .before .before .before .before .before .before .args in
-    let at-sizes = c .before .before .sizes in
-    let at-limits = c .before .before .before .before .before .before .limits in
-    let at-in-range = c .before .before .before .before .in-range in
-    let at-if2 = c .before .before .before .if2 in
-    let at-if1 = c .before .before .before .before .before .before .before .if1 in
-    let at-if3 = c .if3 in
-    refused (at-args .room .now) (at-sizes .result) (at-sizes .ensures) (at-args .server)
-    (judged (at-args .room .now) (at-limits .ensures) (at-in-range .ensures) (not-false _ (at-if2 .left)))
-    (at-args .out .now) (at-if1 .left) (at-if3 .taken)
+returns-3 c = refused (c .before .before) (c .if3 .taken)
 
 clear-requires : tie.Need-clear-requires
 clear-requires c κs = search needs
 
 cast-list : tie.Need-cast-list
 cast-list c =
-    let at-args = c .before .before .before .before .before .before .before .before .before .before .before .before .before .before .args in
-    let at-sizes = c .before .before .before .before .before .before .sizes in
-    let at-limits = c .before .before .before .before .before .before .before .before .before .before .limits in
-    let at-in-range = c .before .before .before .before .before .before .before .before .in-range in
-    let at-if2 = c .before .before .before .before .before .before .before .if2 in
-    let at-if3 = c .before .before .before .before .if3 in
-    omega (
-      arith,
-      small (at-args .room .now) (at-sizes .result) (at-sizes .ensures) (at-args .server)
-          (judged (at-args .room .now) (at-limits .ensures) (at-in-range .ensures) (not-false _ (at-if2 .left)))
-          (at-if3 .left),
-    )
+    let goes-on = c .before .before .before .before in
+    omega (arith, small (goes-on .before .before) (goes-on .if3 .left))
 
 list-requires : tie.Need-list-requires
 list-requires c κs =
-    let at-args = c .before .before .before .before .before .before .before .before .before .before .before .before .before .before .before .args in
-    let at-sizes = c .before .before .before .before .before .before .before .sizes in
-    let at-limits = c .before .before .before .before .before .before .before .before .before .before .before .limits in
-    let at-in-range = c .before .before .before .before .before .before .before .before .before .in-range in
-    let at-if2 = c .before .before .before .before .before .before .before .before .if2 in
-    let at-if3 = c .before .before .before .before .before .if3 in
-    let at-clear = c .before .before .before .clear in
-    let at-if1 = c .before .before .before .before .before .before .before .before .before .before .before .before .if1 in (
-      ready (at-args .room .now) (at-sizes .result) (at-sizes .ensures) (at-args .server)
-          (judged (at-args .room .now) (at-limits .ensures) (at-in-range .ensures) (not-false _ (at-if2 .left)))
-          (at-if3 .left),
-      at-clear .ensures ∙ ap (λ (n : ℕ). replicate n 0) (at-if1 .left),
-    )
+    let goes-on = c .before .before .before .before .before in
+    let sized = goes-on .before .before in
+    (ready sized (goes-on .if3 .left), c .before .before .before .clear .ensures ∙ ap (λ (n : ℕ). replicate n 0) (exact (sized .before)))
 
 same-length : tie.Need-same-length
 same-length c = search needs
 
 returns-4 : tie.Need-returns-4
 returns-4 c =
-    let at-args = c .before .before .before .before .before .before .before .before .before .before .before .before .before .before .before .before .before .before .args in
-    let at-sizes = c .before .before .before .before .before .before .before .before .before .before .sizes in
-    let at-limits = c .before .before .before .before .before .before .before .before .before .before .before .before .before .before .limits in
-    let at-in-range = c .before .before .before .before .before .before .before .before .before .before .before .before .in-range in
-    let at-if2 = c .before .before .before .before .before .before .before .before .before .before .before .if2 in
-    let at-if1 = c .before .before .before .before .before .before .before .before .before .before .before .before .before .before .before .if1 in
-    let at-list = c .before .before .list in
-    let at-if3 = c .before .before .before .before .before .before .before .before .if3 in
-    listed (at-args .room .now) (at-sizes .result) (at-sizes .ensures) (at-args .server)
-    (judged (at-args .room .now) (at-limits .ensures) (at-in-range .ensures) (not-false _ (at-if2 .left)))
-    (at-args .out .now) (at-if1 .left) (at-list .result) (at-list .last .1 .1 .1 .0) (at-if3 .left) (at-list .ensures .0) (at-list .ensures .1)
+    let done = c .before .before in
+    let goes-on = done .before .before .before .before .before .before in
+    listed (goes-on .before .before) (done .list .result) (done .list .last .1 .1 .1 .0) (goes-on .if3 .left) (done .list .ensures .0) (done .list .ensures .1)
 
 pub catalogue-spec : {M : Type 1} → statement M
 catalogue-spec =

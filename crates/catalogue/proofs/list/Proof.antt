@@ -8,10 +8,8 @@ use Prim.Native.Nat.{ℕ, suc, _+_, _-_, _≤_, _<_}
 use mathlib.Core.Path.{_≡_, _∙_, sym, ap, ap₂}
 use mathlib.Core.List.{List, [], _∷_}
 use lib.ListN.{length, replicate}
-use Rattle.state.specs.declared.Server.{Server}
 use Rattle.state.specs.declared.Sizes.{Sizes}
 use Rattle.state.specs.Server.{outputOf}
-use Rattle.layout.specs.Cells.{serverOf}
 use Rattle.catalogue.specs.Fold.{pieces, Entries, cellsAfter, skippedBy, folded}
 use Rattle.catalogue.specs.Outputs.{outputAt, leading, outputsOf}
 use Rattle.catalogue.specs.Call.{entriesOf, counted}
@@ -41,12 +39,6 @@ left-first z room p out e =
       rest = ap₂ (λ (x ys : List ℕ). folded (record { cells = x; skipped = 0 }) ys) e l;
       taken = zero-add (length (leading (outputAt z room p) 0 (z .slots - 0))) ∙ ap length l;
     }
-
--- what was read in slot k is the output there
-output-is
-    : (z : Sizes) (room : List ℕ) (p k v : ℕ) (w : Server) → w ≡ serverOf z room k p → v ≡ outputOf w → v ≡ outputAt z room p k
-unfolding outputAt
-output-is z room p k v w e f = f ∙ ap outputOf e
 
 module _ {z : Sizes} {room : List ℕ} {p : ℕ} {out : List ℕ} {k skipped : ℕ} (left : Left z room p out k skipped) where
   left-next
@@ -86,102 +78,93 @@ Inv-loop room z p out₀ k₀ skipped₀ out k skipped = Left z room p out k ski
 abbrev μ-loop : tie.MeasureT-loop
 μ-loop room z p out₀ k₀ skipped₀ out k skipped = z .slots - k
 
+-- the moments that the answers go back to: a turn of the loop, and the call that it belongs to
+abbrev start : tie.At-loop Inv-loop μ-loop → tie.Start Inv-loop μ-loop
+start c = c .before .before .before
+
+abbrev turn : tie.After-output Inv-loop μ-loop → tie.At-loop Inv-loop μ-loop
+turn c = c .before .before .before .before
+
+-- what was read in slot k is the output there
+abbrev outputs : tie.At-loop Inv-loop μ-loop → ℕ → ℕ
+outputs c = outputAt (start c .args .z) (start c .args .room .now) (start c .args .p)
+
+read : (c : tie.After-output Inv-loop μ-loop) → c .output .result ≡ outputs (turn c) (turn c .loop .k)
+unfolding outputAt
+read c = c .output .ensures ∙ ap outputOf (c .before .server .ensures)
+
 loop-holds : tie.Need-loop-holds Inv-loop μ-loop
 loop-holds c =
-    let at-args = c .before .before .args in
-    let at-pre = c .before .before .pre in
-    left-first (at-args .z) (at-args .room .now) (at-args .p) (at-args .out .now) (at-pre .1)
+    let a = c .before .before .args in
+    left-first (a .z) (a .room .now) (a .p) (a .out .now) (c .before .before .pre .1)
 
 cast-server : tie.Need-cast-server Inv-loop μ-loop
-cast-server c =
-    let at-pre = c .before .before .before .before .before .pre in
-    omega (arith, at-pre .0 .row .fit)
+cast-server c = omega (arith, start (c .before .before) .pre .0 .row .fit)
 
 server-requires : tie.Need-server-requires Inv-loop μ-loop
 server-requires c κs =
-    let at-pre = c .before .before .before .before .before .pre in
-    let at-loop = c .before .before .loop in
-    (at-pre .0 .row, omega (arith, at-loop .inv .count), at-pre .0 .server)
+    let t = c .before .before in
+    (start t .pre .0 .row, omega (arith, t .loop .inv .count), start t .pre .0 .server)
 
 output-requires : tie.Need-output-requires Inv-loop μ-loop
 output-requires c κs = search needs
 
 apply-requires : tie.Need-apply-requires Inv-loop μ-loop
 apply-requires c κs =
-    let at-args = c .before .before .before .before .before .before .before .before .before .args in
-    let at-loop = c .before .before .before .before .before .before .loop in
-    let at-output = c .before .before .output in
-    let at-server = c .before .before .before .server in
-    let at-pre = c .before .before .before .before .before .before .before .before .before .pre in
-    let e = output-is (at-args .z) (at-args .room .now) (at-args .p) (at-loop .k) (at-output .result) (at-server .result) (at-server .ensures) (at-output .ensures) in
-    omega (arith, at-pre .0 .within (at-loop .k) (omega (arith, at-loop .inv .count)), ap pieceOf e, at-loop .inv .size)
+    let t = turn (c .before .before) in
+    omega (arith, start t .pre .0 .within (t .loop .k) (omega (arith, t .loop .inv .count)), ap pieceOf (read (c .before .before)), t .loop .inv .size)
 
 add-skipped : tie.Need-add-skipped Inv-loop μ-loop
 add-skipped c =
-    let at-loop = c .before .before .before .before .before .before .before .before .before .loop in
-    let at-pre = c .before .before .before .before .before .before .before .before .before .before .before .before .pre in
-    let at-apply = c .before .before .apply in
-    let at-output = c .before .before .before .before .before .output in
+    let applied = c .before .before in
+    let found = applied .before .before .before in
+    let t = turn found in
     omega (
       arith,
-      at-loop .inv .small,
-      at-loop .inv .count,
-      at-pre .0 .row .fit,
-      at-apply .ensures .0,
-      skipped-small (at-loop .out) (at-output .result),
+      t .loop .inv .small,
+      t .loop .inv .count,
+      start t .pre .0 .row .fit,
+      applied .apply .ensures .0,
+      skipped-small (t .loop .out) (found .output .result),
     )
 
 add-k : tie.Need-add-k Inv-loop μ-loop
 add-k c =
-    let at-loop = c .before .before .before .before .before .before .before .before .before .loop in
-    let at-pre = c .before .before .before .before .before .before .before .before .before .before .before .before .pre in
-    omega (arith, at-loop .inv .count, at-pre .0 .row .fit)
+    let t = turn (c .before .before .before .before .before) in
+    omega (arith, t .loop .inv .count, start t .pre .0 .row .fit)
 
 loop-less : tie.Need-loop-less Inv-loop μ-loop
-loop-less c =
-    let at-loop = c .before .before .before .before .before .before .before .before .before .loop in
-    omega (arith, at-loop .inv .count)
+loop-less c = omega (arith, turn (c .before .before .before .before .before) .loop .inv .count)
 
 loop-again : tie.Need-loop-again Inv-loop μ-loop
 loop-again c =
-    let at-loop = c .before .before .before .before .before .before .before .before .before .loop in
-    let at-output = c .before .before .before .before .before .output in
-    let at-apply = c .before .before .apply in
-    let at-args = c .before .before .before .before .before .before .before .before .before .before .before .before .args in
-    let at-server = c .before .before .before .before .before .before .server in
-    let at-if2 = c .before .before .before .before .if2 in
-    left-next (at-loop .inv) (at-output .result) (at-apply .result) (at-apply .last .0) (omega (arith, at-loop .inv .count))
-    (output-is (at-args .z) (at-args .room .now) (at-args .p) (at-loop .k) (at-output .result) (at-server .result) (at-server .ensures) (at-output .ensures))
-    (at-if2 .left) (at-apply .ensures .0) (at-apply .ensures .1)
+    let applied = c .before .before in
+    let found = applied .before .before .before in
+    let t = turn found in
+    left-next (t .loop .inv) (found .output .result) (applied .apply .result) (applied .apply .last .0)
+    (omega (arith, t .loop .inv .count)) (read found) (applied .before .before .if2 .left) (applied .apply .ensures .0)
+    (applied .apply .ensures .1)
+
+-- the cells are as many as at the start
+kept : (c : tie.At-loop Inv-loop μ-loop) → length (c .loop .out) ≡ length (start c .args .out .now)
+kept c = c .loop .inv .size ∙ sym (ap length (start c .pre .1))
 
 same-length : tie.Need-same-length Inv-loop μ-loop
-same-length c =
-    let at-loop = c .before .before .loop in
-    let at-pre = c .before .before .before .before .before .pre in
-    at-loop .inv .size ∙ sym (ap length (at-pre .1))
+same-length c = kept (c .before .before)
 
 returns : tie.Need-returns Inv-loop μ-loop
 returns c =
-    let at-loop = c .before .before .loop in
-    let at-args = c .before .before .before .before .before .args in
-    left-last (at-loop .inv) (none-left (outputAt (at-args .z) (at-args .room .now) (at-args .p)) (at-loop .k) (at-args .z .slots) (omega arith))
+    let t = c .before .before in
+    left-last (t .loop .inv) (none-left (outputs t) (t .loop .k) (start t .args .z .slots) (omega arith))
 
 same-length-2 : tie.Need-same-length-2 Inv-loop μ-loop
-same-length-2 c =
-    let at-loop = c .before .before .before .before .before .loop in
-    let at-pre = c .before .before .before .before .before .before .before .before .pre in
-    at-loop .inv .size ∙ sym (ap length (at-pre .1))
+same-length-2 c = kept (turn (c .before))
 
 returns-2 : tie.Need-returns-2 Inv-loop μ-loop
 returns-2 c =
-    let at-args = c .before .before .before .before .before .before .before .before .args in
-    let at-loop = c .before .before .before .before .before .loop in
-    let at-output = c .before .output in
-    let at-server = c .before .before .server in
-    let at-if2 = c .if2 in
-    let e = output-is (at-args .z) (at-args .room .now) (at-args .p) (at-loop .k) (at-output .result) (at-server .result) (at-server .ensures) (at-output .ensures) in
-    left-last (at-loop .inv)
-    (none-there (outputAt (at-args .z) (at-args .room .now) (at-args .p)) (at-loop .k) (at-args .z .slots - at-loop .k) (sym e ∙ at-if2 .taken))
+    let t = turn (c .before) in
+    left-last (t .loop .inv)
+    (none-there (outputs t) (t .loop .k) (start t .args .z .slots - t .loop .k) (sym (read (c .before)) ∙ c .if2 .taken))
 
 pub list-spec : {M : Type 1} → statement M
 list-spec =
