@@ -1,10 +1,10 @@
--- The call (01, "The catalogue", "Who can bring which number"): refused with 2 where out is not 64 cells, 3 where the
+-- The call (SPEC, "The catalogue", "Who can bring which number"): refused with 2 where out is not 64 cells, 3 where the
 -- room is out of range, 4 where the server is beyond it. A refusal changes no cell.
 use Prim.Native.Nat.{ℕ, _<_}
-use mathlib.Core.Bool.{Bool, true, false}
 use mathlib.Core.List.{List}
 use lib.ListN.{length}
 use lib.Dec.{eqb, ltb}
+use Rattle.checks.specs.Checks.{Checked, Must, Gives, outcome}
 use Rattle.command.specs.Command.{pieceOf}
 use Rattle.state.specs.declared.Sizes.{Sizes}
 use Rattle.layout.specs.Places.{Row}
@@ -19,22 +19,20 @@ use Rattle.catalogue.specs.declared.Listing.the-variants.{Counted, Refus
 unfoldable pub entriesOf : Sizes → List ℕ → ℕ → Entries
 entriesOf z room p = folded start (outputsOf z room p)
 
--- "It answers taken (k) and skipped"
+-- how many commands were taken, and how many of these were skipped
 abbrev pub counted : Sizes → List ℕ → ℕ → Listing
 counted z room p = Counted (length (outputsOf z room p)) (entriesOf z room p .skipped)
 
--- refused with n unless the condition holds
-unfoldable pub must : Bool → ℕ → Listing → Listing
-must true n rest = rest
-must false n rest = Refused n
+unfoldable pub catalogueChecks : List ℕ → ℕ → List ℕ → Checked Listing
+catalogueChecks room server out =
+    Must (eqb (length out) pieces) 2
+    (Must (inRange room) 3
+    (Must (ltb server (sizesOf room .servers)) 4
+    (Gives (counted (sizesOf room) room server))))
 
--- the answer, where commands are judged by the cabinets' limits
-unfoldable pub catalogueOf : List ℕ → List ℕ → ℕ → List ℕ → Listing
-catalogueOf limits room server out =
-    must (eqb (length out) pieces) 2
-    (must (inRange limits room) 3
-    (must (ltb server (sizesOf room .servers)) 4
-    (counted (sizesOf room) room server)))
+-- the answer
+unfoldable pub catalogueOf : List ℕ → ℕ → List ℕ → Listing
+catalogueOf room server out = outcome Refused (catalogueChecks room server out)
 
 -- what is lent, by the answer: the new cells, or the old
 abbrev pub leftBy : Listing → List ℕ → List ℕ → List ℕ
@@ -42,9 +40,9 @@ leftBy (Counted k n) new old = new
 leftBy (Refused n) new old = old
 
 -- the 64 cells afterwards
-unfoldable pub catalogueCells : List ℕ → List ℕ → ℕ → List ℕ → List ℕ
-catalogueCells limits room server out =
-    leftBy (catalogueOf limits room server out) (entriesOf (sizesOf room) room server .cells) out
+unfoldable pub catalogueCells : List ℕ → ℕ → List ℕ → List ℕ
+catalogueCells room server out =
+    leftBy (catalogueOf room server out) (entriesOf (sizesOf room) room server .cells) out
 
 -- what the loop over the slots needs of a room in range
 pub record Listable (z : Sizes) (room : List ℕ) (p : ℕ) : Type 0 where

@@ -2,7 +2,7 @@
 ghost use mathlib.Core.Path.{_≡_};
 ghost use Prim.Native.Nat.{_<_};
 ghost use lib.ListN.{length, replicate};
-ghost use Rattle.command.specs.Command.{pieceOf, cabinetLimits};
+ghost use Rattle.command.specs.Command.{pieceOf};
 ghost use Rattle.catalogue.specs.Entry.{applies, changed};
 ghost use Rattle.catalogue.specs.Fold.{pieces, cellsAfter, skippedBy};
 ghost use Rattle.catalogue.specs.Listing.{catalogueRefusal, takenOf, skippedOf};
@@ -60,14 +60,13 @@ impl Listing {
 // Writes each piece's hoard, 0 if it has none, as the outputs of one server give it. Refused with 2 where out is not 64
 // cells, 3 where the row is no room in range, and 4 where the server is beyond the room; then no cell changes.
 pub fn catalogue(room: &[u32], server: u32, out: &mut [u32]) -> Listing
-    ensures { λ r. ⌜ (r ≡ catalogueOf cabinetLimits (now (room .entry)) server (now (out .entry)))
-        × (now (out .exit) ≡ catalogueCells cabinetLimits (now (room .entry)) server (now (out .entry))) ⌝ }
+    ensures { λ r. ⌜ (r ≡ catalogueOf (now (room .entry)) server (now (out .entry)))
+        × (now (out .exit) ≡ catalogueCells (now (room .entry)) server (now (out .entry))) ⌝ }
 {
     if out.len() != PIECES {
         return Listing::Refused(2);
     }
-    let limits = command::limits();
-    if !range::in_range(room, &limits) {
+    if !range::in_range(room) {
         return Listing::Refused(3);
     }
     let z = layout::sizes(room);

@@ -9,7 +9,6 @@ use mathlib.Core.Bool.{Bool, true}
 use mathlib.Core.List.{List}
 use lib.ListN.{length, replicate}
 use borrow.Author.Tests.{not-true, not-false}
-use Rattle.command.specs.Command.{cabinetLimits}
 use Rattle.state.specs.declared.Sizes.{Sizes}
 use Rattle.range.specs.Range.{inRange}
 use Rattle.catalogue.specs.Fold.{pieces}
@@ -18,21 +17,15 @@ use Rattle.catalogue.specs.declared.Listing.{Listing}
 use Rattle.catalogue.specs.declared.Listing.the-variants.{Refused}
 use Rattle.catalogue.proofs.CallLaws.{room-head, room-servers, listable, wrong-length, out-of-range, no-server, accepts}
 
--- the range test, by the limits lent
-judged
-    : (room : List ℕ) {limits : List ℕ} {b x : Bool} → limits ≡ cabinetLimits → b ≡ inRange limits room → b ≡ x
-    → inRange cabinetLimits room ≡ x
-judged room e f g = ap (λ (l : List ℕ). inRange l room) (sym e) ∙ sym f ∙ g
-
 -- past the first two checks: where the call began, that the row is in range, and that the cells lent are 64
 abbrev start : tie.Else2 → tie.Start
-start c = c .before .before .before .before .before .before .before
+start c = c .before .before .before .before .before
 
-range : (c : tie.Else2) → inRange cabinetLimits (start c .args .room .now) ≡ true
-range c = judged (start c .args .room .now) (c .before .before .before .limits .ensures) (c .before .in-range .ensures) (not-false _ (c .if2 .left))
+range : (c : tie.Else2) → inRange (start c .args .room .now) ≡ true
+range c = sym (c .before .in-range .ensures) ∙ not-false _ (c .if2 .left)
 
 exact : (c : tie.Else2) → length (start c .args .out .now) ≡ pieces
-exact c = c .before .before .before .before .if1 .left
+exact c = c .before .before .if1 .left
 
 -- its sizes are read: what follows where the server is one of them, and where it is not
 module _ (c : tie.After-sizes) where
@@ -49,25 +42,25 @@ module _ (c : tie.After-sizes) where
   z = c .sizes .result
 
   small : server < z .servers → server < 4
-  small h = omega (arith, room-servers cabinetLimits room (range (c .before)), ap (λ (y : Sizes). y .servers) (c .sizes .ensures))
+  small h = omega (arith, room-servers room (range (c .before)), ap (λ (y : Sizes). y .servers) (c .sizes .ensures))
 
   ready : server < z .servers → Listable z room server
   ready h =
       subst (λ (y : Sizes). Listable y room server) (sym (c .sizes .ensures))
-      (listable cabinetLimits room (range (c .before)) server (subst (λ (y : Sizes). server < y .servers) (c .sizes .ensures) h))
+      (listable room (range (c .before)) server (subst (λ (y : Sizes). server < y .servers) (c .sizes .ensures) h))
 
   refused
       : z .servers ≤ server
-      → (Refused 4 ≡ catalogueOf cabinetLimits room server out) × (out ≡ catalogueCells cabinetLimits room server out)
+      → (Refused 4 ≡ catalogueOf room server out) × (out ≡ catalogueCells room server out)
   refused h =
-      no-server cabinetLimits room server out (exact (c .before)) (range (c .before))
+      no-server room server out (exact (c .before)) (range (c .before))
       (subst (λ (y : Sizes). y .servers ≤ server) (c .sizes .ensures) h)
 
   listed
       : (r : Listing) (new : List ℕ) → server < z .servers → r ≡ counted z room server → new ≡ entriesOf z room server .cells
-      → (r ≡ catalogueOf cabinetLimits room server out) × (new ≡ catalogueCells cabinetLimits room server out)
+      → (r ≡ catalogueOf room server out) × (new ≡ catalogueCells room server out)
   listed r new h f g =
-      let a = accepts cabinetLimits room server out (exact (c .before)) (range (c .before)) (subst (λ (y : Sizes). server < y .servers) (c .sizes .ensures) h) in (
+      let a = accepts room server out (exact (c .before)) (range (c .before)) (subst (λ (y : Sizes). server < y .servers) (c .sizes .ensures) h) in (
         f ∙ ap (λ (y : Sizes). counted y room server) (c .sizes .ensures) ∙ a .0,
         g ∙ ap (λ (y : Sizes). entriesOf y room server .cells) (c .sizes .ensures) ∙ a .1,
       )
@@ -75,22 +68,19 @@ module _ (c : tie.After-sizes) where
 returns : tie.Need-returns
 returns c =
     let a = c .before .before .before .args in
-    wrong-length cabinetLimits (a .room .now) (a .server) (a .out .now) (c .if1 .taken)
-
-limits-requires : tie.Need-limits-requires
-limits-requires c κs = search needs
+    wrong-length (a .room .now) (a .server) (a .out .now) (c .if1 .taken)
 
 in-range-requires : tie.Need-in-range-requires
 in-range-requires c κs = search needs
 
 returns-2 : tie.Need-returns-2
 returns-2 c =
-    let a = c .before .before .before .before .before .before .before .args in
-    out-of-range cabinetLimits (a .room .now) (a .server) (a .out .now) (c .before .before .before .before .if1 .left)
-    (judged (a .room .now) (c .before .before .before .limits .ensures) (c .before .in-range .ensures) (not-true _ (c .if2 .taken)))
+    let a = c .before .before .before .before .before .args in
+    out-of-range (a .room .now) (a .server) (a .out .now) (c .before .before .if1 .left)
+    (sym (c .before .in-range .ensures) ∙ not-true _ (c .if2 .taken))
 
 sizes-requires : tie.Need-sizes-requires
-sizes-requires c κs = room-head cabinetLimits (start c .args .room .now) (range c)
+sizes-requires c κs = room-head (start c .args .room .now) (range c)
 
 returns-3 : tie.Need-returns-3
 returns-3 c = refused (c .before .before) (c .if3 .taken)
@@ -123,7 +113,6 @@ catalogue-spec =
     tie.close
     (tie.spec
     returns
-    limits-requires
     in-range-requires
     returns-2
     sizes-requires
