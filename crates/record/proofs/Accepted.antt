@@ -1,21 +1,21 @@
 -- What holds where a step was read, and which numbers the answers carry.
 use Prim.Native.Nat.{ℕ, _<_, _≤_}
-use mathlib.Core.Bool.{Bool, true, false}
+use mathlib.Core.Bool.{false}
 use mathlib.Core.List.{List}
 use mathlib.Core.Logic.{_⊎_, inl, inr}
-use mathlib.Core.Path.{_≡_, refl}
+use mathlib.Core.Path.{_≡_, refl, sym, subst}
 use native.Mathlib.Omega.{arith}
-use borrow.Author.Tests.{ltb-false, leb-false}
-use lib.Dec.{ltb, leb}
+use borrow.Author.Tests.{ltb-true, leb-true, not-true}
 use lib.ListN.{length, getD}
 use Rattle.state.specs.declared.Step.{Step}
-use Rattle.record.specs.Answers.{readRefusal}
+use Rattle.checks.proofs.CheckLaws.{must-cases}
+use Rattle.record.specs.Answers.{readRefusal, Reads}
 use Rattle.record.specs.Fields.{maskOf, stepOf, withValues}
 use Rattle.record.specs.Map.{widths, recordLength, unknown, malformed, asksMore, zeroAmong}
-use Rattle.record.specs.Read.{readingOf, refuse, valuesAt}
-use Rattle.record.specs.declared.Reading.the-variants.{Decoded}
+use Rattle.record.specs.Read.{readChecks, readingOf, valuesAt}
+use Rattle.record.specs.declared.Reading.the-variants.{Decoded, Refused}
 use Rattle.record.specs.declared.Reading.{Reading}
-use Rattle.record.proofs.Checks.{passed, or-false-left, or-false-right}
+use Rattle.record.proofs.Tests.{or-false-left, or-false-right}
 use Rattle.record.proofs.Marks.{asked-length}
 use Rattle.record.proofs.Steps.{kind-length}
 
@@ -32,26 +32,28 @@ pub record Accepted (bytes : List ℕ) (step : Step) (used : ℕ) : Type 0 where
 
 pub accepted : (bytes : List ℕ) {step : Step} {used : ℕ}
     → readingOf bytes ≡ Decoded step used → Accepted bytes step used
-unfolding readingOf malformed
-accepted bytes read =
+unfolding readingOf readChecks malformed
+accepted bytes {step} {used} =
     let m = getD bytes 0 0 in
     let kind = getD bytes 1 0 in
-    let c1 = passed (ltb (length bytes) 1) 14 _ read in
-    let c2 = passed (leb 32 m) 15 _ (c1 .1) in
-    let c3 = passed (ltb (length bytes) 2) 14 _ (c2 .1) in
-    let c4 = passed (malformed m kind) 15 _ (c3 .1) in
-    let c5 = passed (ltb (length bytes) (recordLength m)) 14 _ (c4 .1) in
-    let c6 = passed (zeroAmong m (valuesAt widths m bytes 2)) 15 _ (c5 .1) in
+    let P : Reading → Type 0 = λ a. a ≡ Decoded step used → Accepted bytes step used in
+    let stop : (n : ℕ) → P (Refused n) = λ n e. absurd (subst (λ (r : Reading). Reads r step used) (sym e) (refl, refl)) in
+    must-cases Refused P _ 14 _ (stop 14) (λ some.
+    must-cases Refused P _ 15 _ (stop 15) (λ small.
+    must-cases Refused P _ 14 _ (stop 14) (λ two.
+    must-cases Refused P _ 15 _ (stop 15) (λ fair.
+    must-cases Refused P _ 14 _ (stop 14) (λ enough.
+    must-cases Refused P _ 15 _ (stop 15) (λ none-zero read.
     record {
-      small = leb-false 32 m (c2 .0);
-      two = ltb-false (length bytes) 2 (c3 .0);
-      known = or-false-left (unknown kind) (asksMore widths m (maskOf kind)) (c4 .0);
-      asks = or-false-right (unknown kind) (asksMore widths m (maskOf kind)) (c4 .0);
-      enough = ltb-false (length bytes) (recordLength m) (c5 .0);
-      none-zero = c6 .0;
-      step-is = cc (c6 .1);
-      used-is = cc (c6 .1);
-    }
+      small = ltb-true m 32 small;
+      two = leb-true 2 (length bytes) two;
+      known = or-false-left (unknown kind) (asksMore widths m (maskOf kind)) (not-true _ fair);
+      asks = or-false-right (unknown kind) (asksMore widths m (maskOf kind)) (not-true _ fair);
+      enough = leb-true (recordLength m) (length bytes) enough;
+      none-zero = not-true _ none-zero;
+      step-is = cc;
+      used-is = cc;
+    }))))))
 
 -- The length used: at least the map and the kind, at most eight bytes, and no more than there are.
 pub record Used (bytes : List ℕ) (used : ℕ) : Type 0 where
@@ -74,18 +76,15 @@ used-bounds bytes {step} {used} read =
 abbrev pub ReadNumber : ℕ → Type 0
 ReadNumber n = (n ≡ 0) ⊎ ((n ≡ 14) ⊎ (n ≡ 15))
 
-checked : (b : Bool) (number : ℕ) (rest : Reading) → ReadNumber number → ReadNumber (readRefusal rest)
-    → ReadNumber (readRefusal (refuse b number rest))
-unfolding refuse
-checked true number rest here there = here
-checked false number rest here there = there
-
 pub read-number : (bytes : List ℕ) → ReadNumber (readRefusal (readingOf bytes))
-unfolding readingOf
+unfolding readingOf readChecks
 read-number bytes =
+    let P : Reading → Type 0 = λ a. ReadNumber (readRefusal a) in
     let cut-short : ReadNumber 14 = inr (inl refl) in
     let bad : ReadNumber 15 = inr (inr refl) in
-    checked _ 14 _ cut-short
-    (checked _ 15 _ bad
-    (checked _ 14 _ cut-short
-    (checked _ 15 _ bad (checked _ 14 _ cut-short (checked _ 15 _ bad (inl refl))))))
+    must-cases Refused P _ 14 _ cut-short (λ some.
+    must-cases Refused P _ 15 _ bad (λ small.
+    must-cases Refused P _ 14 _ cut-short (λ two.
+    must-cases Refused P _ 15 _ bad (λ fair.
+    must-cases Refused P _ 14 _ cut-short (λ enough.
+    must-cases Refused P _ 15 _ bad (λ none-zero. inl refl))))))

@@ -14,7 +14,7 @@ use Rattle.record.specs.Map.{bitOf, mapOf, fieldsLength, asksMore, zeroA
 use Rattle.record.specs.Read.{lowNumber, valuesAt, Bytes}
 use Rattle.record.specs.Write.{lowFirst, fieldBytes}
 use Rattle.record.proofs.Bytes.{low-length, low-back, low-again, low-bound, low-none, bytes-take, bytes-drop}
-use Rattle.record.proofs.Checks.{or-false-left, or-false-right}
+use Rattle.record.proofs.Tests.{or-false-left, or-false-right}
 use Rattle.record.proofs.MapLaws.{bit-small}
 
 -- a field's bit stands exactly where the field is not 0

@@ -3,9 +3,10 @@ use mathlib.Core.List.{[], _∷_}
 use mathlib.Core.Path.{_≡_, refl}
 use native.Mathlib.Omega.{arith}
 use Rattle.state.specs.declared.Step.the-variants.{Offer, Rejoin, Finish}
+use Rattle.checks.specs.Checks.{must}
 use Rattle.record.specs.Fields.{maskOf, stepOf, StepFits}
 use Rattle.record.specs.Map.{mapOf, fieldsLength, recordLength, asksMore, malformed, zeroAmong}
-use Rattle.record.specs.Read.{lowNumber, valuesAt, refuse, readingOf}
+use Rattle.record.specs.Read.{lowNumber, valuesAt, readChecks, readingOf}
 use Rattle.record.specs.Write.{lowFirst, fieldBytes, bytesOf, recordOfFields, recordOf}
 use Rattle.record.specs.declared.Reading.the-variants.{Decoded, Refused}
 
@@ -25,7 +26,7 @@ pub record Samples : Type 0 where
 
 pub samples : Samples
 unfolding maskOf stepOf mapOf fieldsLength recordLength asksMore malformed zeroAmong lowFirst fieldBytes bytesOf
-    recordOfFields recordOf lowNumber valuesAt refuse readingOf
+    recordOfFields recordOf lowNumber valuesAt readChecks readingOf must
 samples =
     record {
       offer = refl;

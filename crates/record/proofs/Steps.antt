@@ -11,7 +11,7 @@ use Rattle.state.specs.declared.Step.the-variants.{Offer, Recall, Rejoin, Bid, 
 use Rattle.state.specs.declared.Step.{Step}
 use Rattle.record.specs.Fields.{maskOf, fields, fieldsOf, stepOf, valuesOf, StepFits}
 use Rattle.record.specs.Map.{widths, unknown, fieldsLength, recordLength}
-use Rattle.record.proofs.Checks.{or-false-left, or-false-right}
+use Rattle.record.proofs.Tests.{or-false-left, or-false-right}
 use Rattle.record.proofs.Marks.{Keeps, Fit}
 
 pub step-fields : (step : Step) → stepOf (fieldsOf step) ≡ step

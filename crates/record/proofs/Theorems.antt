@@ -1,24 +1,24 @@
 -- What is written reads back, what is read is written again, and no two steps share a record (01, "Step records").
 use Prim.Native.Nat.{ℕ, suc, _+_, _<_, _≤_}
-use mathlib.Core.Bool.{Bool, false, _||_}
+use mathlib.Core.Bool.{Bool, false, not, _||_}
 use mathlib.Core.List.{List, [], _∷_, _++_, append-nil}
 use mathlib.Core.Path.{_≡_, refl, _∙_, sym, ap, ap₂, subst}
 use native.Mathlib.Omega.{arith}
-use borrow.Author.Tests.{le-ltb, lt-leb}
-use lib.Dec.{leb}
+use borrow.Author.Tests.{le-leb, lt-ltb}
 use lib.ListN.{length, getD, take, drop, length-append}
-use Rattle.lemmas.proofs.Tests.{by-test}
 use Rattle.state.specs.declared.Step.{Step}
+use Rattle.checks.proofs.CheckLaws.{passes, must-cases}
 use Rattle.record.specs.Answers.{Reads, writeRefusal, writeLength}
 use Rattle.record.specs.Fields.{maskOf, fieldsOf, stepOf, valuesOf, withValues, StepFits}
 use Rattle.record.specs.Map.{widths, mapOf, recordLength, fieldsLength, unknown, malformed, asksMore, zeroAmong}
-use Rattle.record.specs.Read.{readingOf, valuesAt, Bytes}
-use Rattle.record.specs.Write.{recordOf, recordOfFields, bytesOf, fieldBytes, writingOf, writtenOf}
+use Rattle.record.specs.Read.{readChecks, readingOf, valuesAt, Bytes}
+use Rattle.record.specs.Write.{recordOf, recordOfFields, bytesOf, fieldBytes, writeChecks, writingOf, writtenBy, writtenOf}
 use Rattle.record.specs.declared.Reading.the-variants as reading
 use Rattle.record.specs.declared.Reading.{Reading}
+use Rattle.record.specs.declared.Writing.the-variants as writing
+use Rattle.record.specs.declared.Writing.{Writing}
 use Rattle.record.specs.declared.fields.Fields.{Fields}
 use Rattle.record.proofs.Accepted.{accepted, Used, used-bounds}
-use Rattle.record.proofs.Checks.{next}
 use Rattle.record.proofs.MapLaws.{map-small, fields-length, bytes-length}
 use Rattle.record.proofs.Marks.{Keeps, Fit, map-marks, asks-no-more, none-zero, values-back, values-mark, values-fit, map-again, values-keep, bytes-again, asked-length}
 use Rattle.record.proofs.Steps.{step-fields, kind-known, step-keeps, step-fit, fields-step, kind-length}
@@ -27,7 +27,7 @@ use Rattle.record.proofs.Steps.{step-fields, kind-known, step-keeps, st
 read-fields : (f : Fields) (rest : List ℕ)
     → Fit widths (valuesOf f) → Keeps (maskOf (f .kind)) (valuesOf f) → unknown (f .kind) ≡ false
     → readingOf (recordOfFields f ++ rest) ≡ reading.Decoded (stepOf f) (length (recordOfFields f))
-unfolding readingOf recordOfFields bytesOf malformed recordLength
+unfolding readingOf readChecks recordOfFields bytesOf malformed recordLength
 read-fields f rest fit keeps known =
     let vs = valuesOf f in
     let mask = maskOf (f .kind) in
@@ -40,13 +40,13 @@ read-fields f rest fit keeps known =
     let enough : recordLength m ≤ length s = omega arith in
     let fair : malformed m (f .kind) ≡ false =
     ap (λ (b : Bool). b || asksMore widths m mask) known ∙ asks-no-more widths vs mask refl in
-    next 14 (le-ltb (length s) 1 (omega arith))
-    (next 15 (lt-leb 32 m (map-small mask vs))
-    (next 14 (le-ltb (length s) 2 (omega arith))
-    (next 15 fair
-    (next 14 (le-ltb (length s) (recordLength m) enough)
-    (next 15 (ap (zeroAmong m) values ∙ none-zero m vs marks)
-    (ap₂ reading.Decoded (ap (λ (l : List ℕ). stepOf (withValues (f .kind) l)) values) (omega arith)))))))
+    passes reading.Refused _ 14 _ (le-leb 1 (length s) (omega arith))
+    ∙ passes reading.Refused _ 15 _ (lt-ltb m 32 (map-small mask vs))
+    ∙ passes reading.Refused _ 14 _ (le-leb 2 (length s) (omega arith))
+    ∙ passes reading.Refused _ 15 _ (ap not fair)
+    ∙ passes reading.Refused _ 14 _ (le-leb (recordLength m) (length s) enough)
+    ∙ passes reading.Refused _ 15 _ (ap not (ap (zeroAmong m) values ∙ none-zero m vs marks))
+    ∙ ap₂ reading.Decoded (ap (λ (l : List ℕ). stepOf (withValues (f .kind) l)) values) (omega arith)
 
 back : (step : Step) (rest : List ℕ) → StepFits step
     → readingOf (recordOf step ++ rest) ≡ reading.Decoded step (length (recordOf step))
@@ -141,14 +141,13 @@ no-beginning a b more fa fb e =
 -- What a call of write leaves, where it is not refused, reads back with the length that it answered.
 pub write-then-read : (step : Step) (buffer : List ℕ) → StepFits step → writeRefusal (writingOf step buffer) ≡ 0
     → Reads (readingOf (writtenOf step buffer)) step (writeLength (writingOf step buffer))
-unfolding writingOf writtenOf
-write-then-read step buffer fits wrote =
-    by-test (leb (length (recordOf step)) (length buffer))
-    (λ e. rw e (read-back step (drop (length (recordOf step)) buffer) fits))
-    (λ e. absurd (two (rw e at wrote)))
-  where
-    two : _≡_ {A = ℕ} 2 0 → ⊥
-    two h = omega arith
+unfolding writingOf writeChecks writtenOf
+write-then-read step buffer fits =
+    let P : Writing → Type 0 =
+    λ w. writeRefusal w ≡ 0 → Reads (readingOf (writtenBy w (recordOf step) buffer)) step (writeLength w) in
+    must-cases writing.Refused P _ 2 _
+    (λ refused. absurd (omega arith))
+    (λ long wrote. read-back step (drop (length (recordOf step)) buffer) fits)
 
 -- A record takes at most eight bytes.
 pub record-most : (step : Step) → length (recordOf step) ≤ 8

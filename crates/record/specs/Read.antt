@@ -1,9 +1,10 @@
 -- What is read from bytes (01, "Step records").
 use Prim.Native.Nat.{ℕ, _+_, _*_, _/_, _%_, _<_}
-use mathlib.Core.Bool.{Bool, true, false}
+use mathlib.Core.Bool.{not}
 use mathlib.Core.List.{List, [], _∷_}
 use lib.Dec.{leb, ltb}
 use lib.ListN.{length, getD, take, drop}
+use Rattle.checks.specs.Checks.{Checked, Must, Gives, outcome}
 use Rattle.record.specs.Fields.{stepOf, withValues}
 use Rattle.record.specs.Map.{widths, recordLength, malformed, zeroAmong}
 use Rattle.record.specs.declared.Reading.the-variants.{Decoded, Refused}
@@ -24,22 +25,20 @@ valuesAt [] map bytes at = []
 valuesAt (w ∷ ws) map bytes at =
     lowNumber (take (map % 2 * w) (drop at bytes)) ∷ valuesAt ws (map / 2) bytes (at + map % 2 * w)
 
--- refuses with the number where the test holds
-unfoldable pub refuse : Bool → ℕ → Reading → Reading
-refuse true number rest = Refused number
-refuse false number rest = rest
-
 -- "Its checks: no byte, 14; bits 5 to 7, 15; no kind, 14; unknown kind or a field it lacks, 15; fields short, 14;
 -- a field of 0, 15." "Read answers the step with the length used; bytes beyond are ignored."
-unfoldable pub readingOf : List ℕ → Reading
-readingOf bytes =
+unfoldable pub readChecks : List ℕ → Checked Reading
+readChecks bytes =
     let map = getD bytes 0 0 in
     let kind = getD bytes 1 0 in
     let values = valuesAt widths map bytes 2 in
-    refuse (ltb (length bytes) 1) 14
-    (refuse (leb 32 map) 15
-    (refuse (ltb (length bytes) 2) 14
-    (refuse (malformed map kind) 15
-    (refuse (ltb (length bytes) (recordLength map)) 14
-    (refuse (zeroAmong map values) 15
-    (Decoded (stepOf (withValues kind values)) (recordLength map)))))))
+    Must (leb 1 (length bytes)) 14
+    (Must (ltb map 32) 15
+    (Must (leb 2 (length bytes)) 14
+    (Must (not (malformed map kind)) 15
+    (Must (leb (recordLength map) (length bytes)) 14
+    (Must (not (zeroAmong map values)) 15
+    (Gives (Decoded (stepOf (withValues kind values)) (recordLength map))))))))
+
+unfoldable pub readingOf : List ℕ → Reading
+readingOf bytes = outcome Refused (readChecks bytes)

@@ -1,10 +1,10 @@
 -- What is written for a step (01, "Step records").
 use Prim.Native.Nat.{ℕ, _*_, _/_, _%_, zero, suc}
-use mathlib.Core.Bool.{cond}
 use mathlib.Core.List.{List, [], _∷_, _++_}
 use lib.Dec.{leb}
 use lib.ListN.{length, drop}
 use Rattle.state.specs.declared.Step.{Step}
+use Rattle.checks.specs.Checks.{Checked, Must, Gives, outcome}
 use Rattle.record.specs.Fields.{maskOf, fieldsOf, valuesOf}
 use Rattle.record.specs.Map.{widths, mapOf}
 use Rattle.record.specs.declared.Writing.the-variants.{Encoded, Refused}
@@ -33,14 +33,18 @@ recordOfFields f = bytesOf (mapOf (maskOf (f .kind)) (valuesOf f)) (f .kind) (va
 unfoldable pub recordOf : Step → List ℕ
 recordOf step = recordOfFields (fieldsOf step)
 
--- "Write answers the length used"; "2 buffer length wrong (record write: too short)"
-unfoldable pub writingOf : Step → List ℕ → Writing
-writingOf step buffer =
-    cond (leb (length (recordOf step)) (length buffer)) (Encoded (length (recordOf step))) (Refused 2)
+-- "2 buffer length wrong (record write: too short)"; "Write answers the length used"
+unfoldable pub writeChecks : Step → List ℕ → Checked Writing
+writeChecks step buffer =
+    Must (leb (length (recordOf step)) (length buffer)) 2 (Gives (Encoded (length (recordOf step))))
 
--- "and leaves later bytes alone"; a refusal changes none
+unfoldable pub writingOf : Step → List ℕ → Writing
+writingOf step buffer = outcome Refused (writeChecks step buffer)
+
+-- the bytes of a buffer after this answer: the record is stored, "and leaves later bytes alone"; a refusal changes none
+abbrev pub writtenBy : Writing → List ℕ → List ℕ → List ℕ
+writtenBy (Encoded used) bytes buffer = bytes ++ drop used buffer
+writtenBy (Refused number) bytes buffer = buffer
+
 unfoldable pub writtenOf : Step → List ℕ → List ℕ
-writtenOf step buffer =
-    cond (leb (length (recordOf step)) (length buffer))
-    (recordOf step ++ drop (length (recordOf step)) buffer)
-    buffer
+writtenOf step buffer = writtenBy (writingOf step buffer) (recordOf step) buffer

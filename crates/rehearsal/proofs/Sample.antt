@@ -21,7 +21,7 @@ use Rattle.room.specs.Judge.{effectOf, stepChecks, judged}
 use Rattle.room.specs.Step.{failedBelow, settled, answered, stepped}
 use Rattle.record.specs.Fields.{maskOf, stepOf}
 use Rattle.record.specs.Map.{fieldsLength, recordLength, asksMore, malformed, zeroAmong}
-use Rattle.record.specs.Read.{lowNumber, valuesAt, refuse, readingOf}
+use Rattle.record.specs.Read.{lowNumber, valuesAt, readChecks, readingOf}
 use Rattle.history.specs.Run.{ran, history}
 use Rattle.catalogue.specs.Entry.{applies, entry}
 use Rattle.catalogue.specs.Fold.{cellsAfter, skippedBy, folded}
@@ -46,8 +46,8 @@ unfolding ones onesIn
     slotLength roomLength slotAt serverAt nthBlockAt blockAt sizesFit serverOf putServer blockOf putBlock
     legalDrives legalReads valueFits numbersFit serverFits blockFits serversFit blocksFit slotFits cellsFit inRange
     openedCells stepChecks effectOf ruleOf judged failedBelow settled answered stepped
-    maskOf stepOf fieldsLength recordLength asksMore malformed zeroAmong lowNumber valuesAt refuse readingOf
-    ran history applies entry cellsAfter skippedBy folded outputAt leading outputsOf entriesOf catalogueOf call.must
+    maskOf stepOf fieldsLength recordLength asksMore malformed zeroAmong lowNumber valuesAt readChecks readingOf
+    ran history applies entry cellsAfter skippedBy folded outputAt leading outputsOf entriesOf catalogueChecks catalogueOf
     digitsIn digits stepLine serverLine openLine
     ended before readOn scriptIn script stepLines endLine recordLines countsLine lineOf serverLines runText rehearsal
 sample = refl

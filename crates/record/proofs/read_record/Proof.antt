@@ -1,20 +1,31 @@
--- `read_record` meets its contract: each check that was passed, and the one that refused, decides the same check of
--- `readingOf`.
-use Prim.Native.Nat.{ℕ}
-use mathlib.Core.Bool.{true, false}
+-- `read_record` meets its contract: each check of the code decides the same check of `readChecks`, in the same order.
+use Prim.Native.Nat.{ℕ, zero, suc}
+use mathlib.Core.Bool.{not}
 use mathlib.Core.List.{List}
 use mathlib.Core.Path.{_≡_, _∙_, sym, ap, ap₂}
 use borrow.Author.Needs.{needs}
 use borrow.Author.Tests.{lt-ltb, le-ltb, lt-leb, le-leb}
-use lib.Dec.{ltb, leb}
-use lib.ListN.{length, getD}
+use lib.ListN.{getD}
+use Rattle.checks.specs.Checks.{Checked, Must, Either, Gives, outcome}
+use Rattle.checks.proofs.CheckLaws.{passes, fails}
 use Rattle.record.specs.Fields.{stepOf, withValues, valuesOf}
 use Rattle.record.specs.Map.{widths, malformed, recordLength, zeroAmong}
-use Rattle.record.specs.Read.{readingOf, refuse, valuesAt}
-use Rattle.record.specs.declared.Reading.the-variants.{Decoded}
+use Rattle.record.specs.Read.{readChecks, readingOf, valuesAt}
+use Rattle.record.specs.declared.Reading.the-variants.{Decoded, Refused}
+use Rattle.record.specs.declared.Reading.{Reading}
 use Rattle.record.specs.declared.fields.Fields.{Fields}
 use Rattle.record.proofs.read_record.Statement.{statement}
 use Rattle.record.proofs.read_record.Tie as tie
+
+-- the checks behind the first n, and what they answer
+abbrev behind : ℕ → Checked Reading → Checked Reading
+behind zero c = c
+behind (suc n) (Must b m c) = behind n c
+behind (suc n) (Either t x y) = Either t x y
+behind (suc n) (Gives a) = Gives a
+
+abbrev rest : ℕ → List ℕ → Reading
+rest n s = outcome Refused (behind n (readChecks s))
 
 -- the bytes, from the place behind each check
 abbrev bytes-1 : tie.Else1 → List ℕ
@@ -35,70 +46,70 @@ bytes-5 c = bytes-4 (c .before .before)
 abbrev bytes-6 : tie.Else6 → List ℕ
 bytes-6 c = bytes-5 (c .before .before .before)
 
-abbrev map-at : List ℕ → ℕ
-map-at s = getD s 0 0
-
-abbrev kind-at : List ℕ → ℕ
-kind-at s = getD s 1 0
-
-values : List ℕ → List ℕ
-values s = valuesAt widths (map-at s) s 2
-
 -- what the calls said of the bytes
-map-is : (c : tie.After-wide) → c .wide .result ≡ map-at (bytes-1 (c .before .before))
+map-is : (c : tie.After-wide) → c .wide .result ≡ getD (bytes-1 (c .before .before)) 0 0
 map-is c = c .wide .ensures
 
 malformed-is : (c : tie.After-malformed)
-    → c .malformed .result ≡ malformed (map-at (bytes-3 (c .before .before))) (kind-at (bytes-3 (c .before .before)))
+    → c .malformed .result ≡ malformed (getD (bytes-3 (c .before .before)) 0 0) (getD (bytes-3 (c .before .before)) 1 0)
 malformed-is c =
     let s = bytes-3 (c .before .before) in
-    let at-map = c .before .before .before .before in
-    c .malformed .ensures ∙ ap (λ (m : ℕ). malformed m (kind-at s)) (map-is at-map)
+    c .malformed .ensures
+    ∙ ap (λ (m : ℕ). malformed m (getD s 1 0)) (map-is (c .before .before .before .before))
 
-length-is : (c : tie.After-record-length) → c .record-length .result ≡ recordLength (map-at (bytes-4 (c .before)))
-length-is c =
-    let at-map = c .before .before .before .before .before .before in
-    c .record-length .ensures ∙ ap recordLength (map-is at-map)
+length-is : (c : tie.After-record-length) → c .record-length .result ≡ recordLength (getD (bytes-4 (c .before)) 0 0)
+length-is c = c .record-length .ensures ∙ ap recordLength (map-is (c .before .before .before .before .before .before))
+
+values-of : List ℕ → List ℕ
+values-of s = valuesAt widths (getD s 0 0) s 2
 
 fields-is : (c : tie.After-fields-at)
-    → c .fields-at .result ≡ withValues (kind-at (bytes-5 (c .before))) (values (bytes-5 (c .before)))
-unfolding values
+    → c .fields-at .result ≡ withValues (getD (bytes-5 (c .before)) 1 0) (values-of (bytes-5 (c .before)))
+unfolding values-of
 fields-is c =
     let s = bytes-5 (c .before) in
-    let at-map = c .before .before .before .before .before .before .before .before in
-    c .fields-at .ensures ∙ ap (λ (m : ℕ). withValues (kind-at s) (valuesAt widths m s 2)) (map-is at-map)
+    c .fields-at .ensures
+    ∙ ap (λ (m : ℕ). withValues (getD s 1 0) (valuesAt widths m s 2))
+    (map-is (c .before .before .before .before .before .before .before .before))
 
 zero-is : (c : tie.After-zero-among)
-    → c .zero-among .result
-    ≡ zeroAmong (map-at (bytes-5 (c .before .before))) (values (bytes-5 (c .before .before)))
-unfolding values valuesAt
+    → c .zero-among .result ≡ zeroAmong (getD (bytes-5 (c .before .before)) 0 0) (values-of (bytes-5 (c .before .before)))
+unfolding values-of valuesAt
 zero-is c =
-    let at-map = c .before .before .before .before .before .before .before .before .before in
     c .zero-among .ensures
-    ∙ ap₂ (λ (m : ℕ) (f : Fields). zeroAmong m (valuesOf f)) (map-is at-map) (fields-is (c .before))
+    ∙ ap₂ (λ (m : ℕ) (f : Fields). zeroAmong m (valuesOf f))
+    (map-is (c .before .before .before .before .before .before .before .before .before)) (fields-is (c .before))
 
--- what each check says that was passed
-pass-1 : (c : tie.Else1) → ltb (length (bytes-1 c)) 1 ≡ false
-pass-1 c = le-ltb _ _ (c .if1 .left)
+-- what is left to judge there
+pass-1 : (c : tie.Else1) → readingOf (bytes-1 c) ≡ rest 1 (bytes-1 c)
+unfolding readingOf readChecks
+pass-1 c = passes Refused _ 14 _ (le-leb _ _ (c .if1 .left))
 
-pass-2 : (c : tie.Else2) → leb 32 (map-at (bytes-2 c)) ≡ false
-pass-2 c = ap (leb 32) (sym (map-is (c .before))) ∙ lt-leb _ _ (c .if2 .left)
+pass-2 : (c : tie.Else2) → readingOf (bytes-2 c) ≡ rest 2 (bytes-2 c)
+unfolding readChecks
+pass-2 c = pass-1 (c .before .before .before) ∙ passes Refused _ 15 _ (cc (lt-ltb _ _ (c .if2 .left)))
 
-pass-3 : (c : tie.Else3) → ltb (length (bytes-3 c)) 2 ≡ false
-pass-3 c = le-ltb _ _ (c .if3 .left)
+pass-3 : (c : tie.Else3) → readingOf (bytes-3 c) ≡ rest 3 (bytes-3 c)
+unfolding readChecks
+pass-3 c = pass-2 (c .before) ∙ passes Refused _ 14 _ (le-leb _ _ (c .if3 .left))
 
-pass-4 : (c : tie.Else4) → malformed (map-at (bytes-4 c)) (kind-at (bytes-4 c)) ≡ false
-pass-4 c = sym (malformed-is (c .before)) ∙ c .if4 .left
+pass-4 : (c : tie.Else4) → readingOf (bytes-4 c) ≡ rest 4 (bytes-4 c)
+unfolding readChecks
+pass-4 c =
+    pass-3 (c .before .before .before) ∙ passes Refused _ 15 _ (ap not (sym (malformed-is (c .before)) ∙ c .if4 .left))
 
-pass-5 : (c : tie.Else5) → ltb (length (bytes-5 c)) (recordLength (map-at (bytes-5 c))) ≡ false
-pass-5 c = ap (ltb (length (bytes-5 c))) (sym (length-is (c .before))) ∙ le-ltb _ _ (c .if5 .left)
+pass-5 : (c : tie.Else5) → readingOf (bytes-5 c) ≡ rest 5 (bytes-5 c)
+unfolding readChecks
+pass-5 c = pass-4 (c .before .before) ∙ passes Refused _ 14 _ (le-leb _ _ (rw (length-is (c .before)) at (c .if5 .left)))
 
-pass-6 : (c : tie.Else6) → zeroAmong (map-at (bytes-6 c)) (values (bytes-6 c)) ≡ false
-pass-6 c = sym (zero-is (c .before)) ∙ c .if6 .left
+pass-6 : (c : tie.Else6) → readingOf (bytes-6 c) ≡ rest 6 (bytes-6 c)
+unfolding readChecks values-of
+pass-6 c =
+    pass-5 (c .before .before .before) ∙ passes Refused _ 15 _ (ap not (sym (zero-is (c .before)) ∙ c .if6 .left))
 
 returns : tie.Need-returns
-unfolding readingOf refuse
-returns c = simp (lt-ltb _ _ (c .if1 .taken))
+unfolding readingOf readChecks
+returns c = sym (fails Refused _ 14 _ (lt-leb _ _ (c .if1 .taken)))
 
 shared-slice-read-wide : tie.Need-shared-slice-read-wide
 shared-slice-read-wide c = search needs
@@ -107,19 +118,12 @@ wide-requires : tie.Need-wide-requires
 wide-requires c κs = search needs
 
 returns-2 : tie.Need-returns-2
-unfolding readingOf refuse
-returns-2 c =
-    let c1 = c .before .before .before in
-    let large : leb 32 (map-at (bytes-1 c1)) ≡ true =
-    ap (leb 32) (sym (map-is (c .before))) ∙ le-leb _ _ (c .if2 .taken) in
-    simp (pass-1 c1, large)
+unfolding readChecks
+returns-2 c = sym (pass-1 (c .before .before .before) ∙ fails Refused _ 15 _ (cc (le-ltb _ _ (c .if2 .taken))))
 
 returns-3 : tie.Need-returns-3
-unfolding readingOf refuse
-returns-3 c =
-    let c2 = c .before in
-    let c1 = c2 .before .before .before in
-    simp (pass-1 c1, pass-2 c2, lt-ltb _ _ (c .if3 .taken))
+unfolding readChecks
+returns-3 c = sym (pass-2 (c .before) ∙ fails Refused _ 14 _ (lt-leb _ _ (c .if3 .taken)))
 
 shared-slice-read-kind : tie.Need-shared-slice-read-kind
 shared-slice-read-kind c = search needs
@@ -128,26 +132,17 @@ malformed-requires : tie.Need-malformed-requires
 malformed-requires c κs = search needs
 
 returns-4 : tie.Need-returns-4
-unfolding readingOf refuse
+unfolding readChecks
 returns-4 c =
-    let c3 = c .before .before .before in
-    let c2 = c3 .before in
-    let c1 = c2 .before .before .before in
-    simp (pass-1 c1, pass-2 c2, pass-3 c3, sym (malformed-is (c .before)) ∙ c .if4 .taken)
+    sym
+    (pass-3 (c .before .before .before) ∙ fails Refused _ 15 _ (ap not (sym (malformed-is (c .before)) ∙ c .if4 .taken)))
 
 record-length-requires : tie.Need-record-length-requires
 record-length-requires c κs = search needs
 
 returns-5 : tie.Need-returns-5
-unfolding readingOf refuse
-returns-5 c =
-    let c4 = c .before .before in
-    let c3 = c4 .before .before .before in
-    let c2 = c3 .before in
-    let c1 = c2 .before .before .before in
-    let short : ltb (length (bytes-4 c4)) (recordLength (map-at (bytes-4 c4))) ≡ true =
-    ap (ltb (length (bytes-4 c4))) (sym (length-is (c .before))) ∙ lt-ltb _ _ (c .if5 .taken) in
-    simp (pass-1 c1, pass-2 c2, pass-3 c3, pass-4 c4, short)
+unfolding readChecks
+returns-5 c = sym (pass-4 (c .before .before) ∙ fails Refused _ 14 _ (lt-leb _ _ (rw (length-is (c .before)) at (c .if5 .taken))))
 
 fields-at-requires : tie.Need-fields-at-requires
 fields-at-requires c κs = search needs
@@ -156,30 +151,19 @@ zero-among-requires : tie.Need-zero-among-requires
 zero-among-requires c κs = search needs
 
 returns-6 : tie.Need-returns-6
-unfolding readingOf refuse values
+unfolding readChecks values-of
 returns-6 c =
-    let c5 = c .before .before .before in
-    let c4 = c5 .before .before in
-    let c3 = c4 .before .before .before in
-    let c2 = c3 .before in
-    let c1 = c2 .before .before .before in
-    simp (pass-1 c1, pass-2 c2, pass-3 c3, pass-4 c4, pass-5 c5, sym (zero-is (c .before)) ∙ c .if6 .taken)
+    sym (pass-5 (c .before .before .before) ∙ fails Refused _ 15 _ (ap not (sym (zero-is (c .before)) ∙ c .if6 .taken)))
 
 step-of-requires : tie.Need-step-of-requires
 step-of-requires c κs = search needs
 
 returns-7 : tie.Need-returns-7
-unfolding readingOf refuse values
+unfolding readChecks values-of
 returns-7 c =
-    let c6 = c .before in
-    let at-fields = c6 .before .before in
-    let c5 = at-fields .before in
-    let c4 = c5 .before .before in
-    let c3 = c4 .before .before .before in
-    let c2 = c3 .before in
-    let c1 = c2 .before .before .before in
-    simp (pass-1 c1, pass-2 c2, pass-3 c3, pass-4 c4, pass-5 c5, pass-6 c6)
-    (ap₂ Decoded (c .step-of .ensures ∙ ap stepOf (fields-is at-fields)) (length-is (c5 .before)))
+    let at-fields = c .before .before .before in
+    ap₂ Decoded (c .step-of .ensures ∙ ap stepOf (fields-is at-fields)) (length-is (at-fields .before .before))
+    ∙ sym (pass-6 (c .before))
 
 pub read-record-spec : {M : Type 1} → statement M
 read-record-spec =

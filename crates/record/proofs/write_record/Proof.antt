@@ -1,15 +1,18 @@
 -- `write_record` meets its contract: what the calls said of the step is put together to its record, and the buffer is
 -- long enough for it or not.
 use Prim.Native.Nat.{ℕ, _≤_}
-use mathlib.Core.List.{List, _++_}
+use mathlib.Core.List.{List}
 use mathlib.Core.Path.{_≡_, _∙_, sym, ap, refl}
 use borrow.Author.Needs.{needs}
 use borrow.Author.Tests.{lt-leb, le-leb}
-use lib.ListN.{length, drop}
+use lib.ListN.{length}
 use lib.Seq.{sets}
+use Rattle.checks.proofs.CheckLaws.{passes, fails}
+use Rattle.state.specs.declared.Step.{Step}
 use Rattle.record.specs.Fields.{maskOf, valuesOf}
-use Rattle.record.specs.Write.{writingOf, writtenOf, bytesOf, recordOf, recordOfFields}
-use Rattle.record.specs.declared.Writing.the-variants.{Encoded}
+use Rattle.record.specs.Write.{writeChecks, writingOf, writtenBy, writtenOf, bytesOf, recordOf, recordOfFields}
+use Rattle.record.specs.declared.Writing.the-variants.{Encoded, Refused}
+use Rattle.record.specs.declared.Writing.{Writing}
 use Rattle.record.proofs.Bytes.{stored-first}
 use Rattle.record.proofs.MapLaws.{map-small, bytes-length}
 use Rattle.record.proofs.write_record.Statement.{statement}
@@ -33,6 +36,12 @@ length-is c =
     ∙ sym (bytes-length (c .before .map-of .result) (f .kind) (valuesOf f) refl)
     ∙ ap length (record-is (c .before))
 
+-- the answer decides what is left in the buffer
+says : (step : Step) (buffer : List ℕ) (w : Writing) → writingOf step buffer ≡ w
+    → (w ≡ writingOf step buffer) × (writtenBy w (recordOf step) buffer ≡ writtenOf step buffer)
+unfolding writtenOf
+says step buffer w e = (sym e, ap (λ (x : Writing). writtenBy x (recordOf step) buffer) (sym e))
+
 fields-of-requires : tie.Need-fields-of-requires
 fields-of-requires c κs = search needs
 
@@ -43,10 +52,9 @@ record-length-requires : tie.Need-record-length-requires
 record-length-requires c κs = search needs
 
 returns : tie.Need-returns
-unfolding writingOf writtenOf
+unfolding writingOf writeChecks
 returns c =
-    let short = lt-leb _ _ (rw (length-is (c .before)) at (c .if1 .taken)) in
-    (simp short, simp short)
+    says _ _ (Refused 2) (fails Refused _ 2 _ (lt-leb _ _ (rw (length-is (c .before)) at (c .if1 .taken))))
 
 put-fields-requires : tie.Need-put-fields-requires
 put-fields-requires c κs =
@@ -59,7 +67,7 @@ same-length : tie.Need-same-length
 same-length c = search needs
 
 returns-2 : tie.Need-returns-2
-unfolding writingOf writtenOf
+unfolding writingOf writeChecks
 returns-2 c =
     let at-length = c .before .before .before .before .before in
     let a = at-length .before .before .before .before .args in
@@ -67,13 +75,12 @@ returns-2 c =
     let rec = recordOf (a .step) in
     let was = a .buffer .now in
     let fits : length rec ≤ length was = rw (length-is at-length) at (at-if .if1 .left) in
-    let stored : c .before .before .put-fields .last .0 ≡ rec ++ drop (length rec) was =
-    c .before .before .put-fields .ensures
-    ∙ ap (λ (r : List ℕ). sets was 0 r) (record-is (at-length .before))
-    ∙ stored-first rec was fits in
-    let long = le-leb _ _ fits in (
-      simp long (ap Encoded (length-is at-length)),
-      simp long stored,
+    let told = says (a .step) was (Encoded (length rec)) (passes Refused _ 2 _ (le-leb _ _ fits)) in (
+      ap Encoded (length-is at-length) ∙ told .0,
+      c .before .before .put-fields .ensures
+          ∙ ap (λ (r : List ℕ). sets was 0 r) (record-is (at-length .before))
+          ∙ stored-first rec was fits
+          ∙ told .1,
     )
 
 pub write-record-spec : {M : Type 1} → statement M
