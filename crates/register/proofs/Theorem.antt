@@ -4,13 +4,13 @@ use mathlib.Core.Path.{_≡_, refl, _∙_, sym, ap, subst}
 use mathlib.Core.List.{List, [], _∷_}
 use native.Mathlib.Omega.{arith}
 use lib.ListN.{length, take, length-take}
-use Rattle.command.specs.Command.{cabinetLimits}
 use Rattle.state.specs.declared.Sizes.{Sizes}
 use Rattle.state.specs.declared.Step.{Step}
 use Rattle.synod.proofs.Machine.{blankSlot}
 use Rattle.synod.proofs.Past.{noGhost}
 use Rattle.layout.specs.Places.{Fit}
 use Rattle.layout.proofs.PlaceLaws.{fit-of}
+use Rattle.layout.specs.Cells.{limitsOf}
 use Rattle.room.specs.Open.{openRefusal, opening, opened, openedCells}
 use Rattle.room.specs.Step.{stepped}
 use Rattle.room.proofs.OpenLaws.{accepted}
@@ -39,7 +39,7 @@ module _ (z : Sizes) (first : ℕ → ℕ) (room : List ℕ) (s : Shown z first 
   shows p l out exact =
       let list = leading first 0 (z .slots) in
       let same = s .sizes in
-      let call = accepts cabinetLimits room p out exact (s .range) (subst (λ (y : Sizes). p < y .servers) (sym same) l) in
+      let call = accepts room p out exact (s .range) (subst (λ (y : Sizes). p < y .servers) (sym same) l) in
       let prefix = taken-prefix p l in
       let k = length (outputsOf z room p) in
       let answer =
@@ -69,7 +69,7 @@ from-opened : (z : Sizes) → Fit z → (steps : List Step) → OneHistory z (op
 unfolding commandsOf
 from-opened z fit steps =
     let cells = openedCells z in
-    let now = opens cabinetLimits z fit in
+    let now = opens (limitsOf cells) z fit in
     let first : ℕ → ℕ = λ t. firstOutput t (history cells steps) in
     record {
       machines = follows z cells (λ t. noGhost) (λ t. blankSlot) now steps;

@@ -3,7 +3,6 @@ use Prim.Native.Nat.{ℕ, _<_, _≤_}
 use mathlib.Core.List.{List, []}
 use mathlib.Core.Path.{_≡_}
 use lib.ListN.{length, take}
-use Rattle.command.specs.Command.{cabinetLimits}
 use Rattle.state.specs.declared.Sizes.{Sizes}
 use Rattle.state.specs.declared.Step.{Step}
 use Rattle.history.specs.Run.{Event, history, Always, firstOutput, OfferedEarlier, AllCommit, CommitsOutput}
@@ -24,10 +23,10 @@ pub record Shows (z : Sizes) (commands room : List ℕ) (p : ℕ) (out : List �
   pub k : ℕ
   pub some : k ≤ length commands
   pub takes : outputsOf z room p ≡ take k commands
-  pub accepted : catalogueRefusal (catalogueOf cabinetLimits room p out) ≡ 0
-  pub taken : takenOf (catalogueOf cabinetLimits room p out) ≡ k
-  pub skipped : skippedOf (catalogueOf cabinetLimits room p out) ≡ folded start (take k commands) .skipped
-  pub cells : catalogueCells cabinetLimits room p out ≡ folded start (take k commands) .cells
+  pub accepted : catalogueRefusal (catalogueOf room p out) ≡ 0
+  pub taken : takenOf (catalogueOf room p out) ≡ k
+  pub skipped : skippedOf (catalogueOf room p out) ≡ folded start (take k commands) .skipped
+  pub cells : catalogueCells room p out ≡ folded start (take k commands) .cells
 
 -- every server's catalogue
 abbrev pub AllShow : Sizes → List ℕ → List ℕ → Type 0

@@ -3,7 +3,6 @@ use Prim.Native.Nat.{ℕ, _+_, _*_, _/_, _%_, _<_, _≤_}
 use mathlib.Core.List.{List}
 use mathlib.Core.Path.{_≡_, subst⁻¹}
 use native.Mathlib.Omega.{arith}
-use Rattle.command.specs.Command.{cabinetLimits}
 use Rattle.range.proofs.Laws.{range-says}
 use Rattle.catalogue.specs.declared.Listing.{Listing}
 use Rattle.catalogue.specs.Call.{catalogueOf}
@@ -34,15 +33,15 @@ few taken skipped a b = record { word = omega arith; upper = omega arith; lower 
 
 pub counts-back
     : (room : List ℕ) (server : ℕ) (out : List ℕ)
-    → catalogueRefusal (catalogueOf cabinetLimits room server out) ≡ 0
-    → Counts (takenOf (catalogueOf cabinetLimits room server out)) (skippedOf (catalogueOf cabinetLimits room server out))
-    (packedListing (catalogueOf cabinetLimits room server out))
+    → catalogueRefusal (catalogueOf room server out) ≡ 0
+    → Counts (takenOf (catalogueOf room server out)) (skippedOf (catalogueOf room server out))
+    (packedListing (catalogueOf room server out))
 counts-back room server out e =
-    let answer = catalogueOf cabinetLimits room server out in
-    let a = accepted-says cabinetLimits room server out e in
-    let fit = range-says cabinetLimits room (a .range) .row .fit in
+    let answer = catalogueOf room server out in
+    let a = accepted-says room server out e in
+    let fit = range-says room (a .range) .row .fit in
     let slots = fit .slots in
     let most = a .at-most-slots in
     subst⁻¹ (λ (l : Listing). Counts (takenOf answer) (skippedOf answer) (packedListing l))
-    (accepted-is cabinetLimits room server out e)
+    (accepted-is room server out e)
     (few (takenOf answer) (skippedOf answer) (omega arith) (a .at-most-taken))

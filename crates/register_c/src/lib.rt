@@ -6,7 +6,6 @@ mod steps;
 
 ghost use mathlib.Core.Path.{_≡_};
 ghost use Rattle.state.specs.declared.Sizes.{Sizes};
-ghost use Rattle.command.specs.Command.{cabinetLimits};
 ghost use Rattle.room.specs.Open.{openRefusal, opening, opened};
 ghost use Rattle.record.specs.Read.{readingOf};
 ghost use Rattle.catalogue.specs.Call.{catalogueOf, catalogueCells};
@@ -65,8 +64,8 @@ pub extern "C" fn register_step(room: &mut [u32], bytes: &[u8]) -> u64
 // Writes the catalogue of one server.
 #[no_mangle]
 pub extern "C" fn register_catalogue(room: &[u32], server: u32, cells: &mut [u32]) -> u64
-    ensures { λ r. ⌜ (r ≡ packedListing (catalogueOf cabinetLimits (now (room .entry)) server (now (cells .entry))))
-        × (now (cells .exit) ≡ catalogueCells cabinetLimits (now (room .entry)) server (now (cells .entry))) ⌝ }
+    ensures { λ r. ⌜ (r ≡ packedListing (catalogueOf (now (room .entry)) server (now (cells .entry))))
+        × (now (cells .exit) ≡ catalogueCells (now (room .entry)) server (now (cells .entry))) ⌝ }
 {
     match register::catalogue(room, server, cells) {
         Listing::Counted { taken, skipped } => (taken as u64) * 256 + (skipped as u64),

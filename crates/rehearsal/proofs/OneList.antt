@@ -12,7 +12,6 @@ use Rattle.room.specs.Open.{openRefusal, openedCells}
 use Rattle.room.specs.Step.{stepped}
 use Rattle.room.proofs.OpenLaws.{opens-room}
 use Rattle.history.specs.Run.{ran, history, Always}
-use Rattle.command.specs.Command.{cabinetLimits}
 use Rattle.catalogue.specs.Fold.{pieces, folded, start}
 use Rattle.catalogue.specs.declared.Listing.the-variants.{Counted}
 use Rattle.catalogue.proofs.AnswerLaws.{accepted-is}
@@ -48,5 +47,5 @@ module _ (z : Sizes) (fits : sizesFit z ≡ true) (steps : List Step) where
       let all = at-last (AllShow z commands) (openedCells z) steps (one .catalogues) in
       let s = all p h (replicate pieces 0) (length-replicate {A = ℕ} pieces 0) in
       let room = ran (openedCells z) steps in
-      let counts = accepted-is cabinetLimits room p (replicate pieces 0) (s .accepted) ∙ ap₂ Counted (s .taken) (s .skipped) in
+      let counts = accepted-is room p (replicate pieces 0) (s .accepted) ∙ ap₂ Counted (s .taken) (s .skipped) in
       record { k = s .k; some = s .some; line = ap (countsLine p) counts }

@@ -26,8 +26,7 @@ use Rattle.history.specs.Run.{ran, history}
 use Rattle.catalogue.specs.Entry.{applies, entry}
 use Rattle.catalogue.specs.Fold.{cellsAfter, skippedBy, folded}
 use Rattle.catalogue.specs.Outputs.{outputAt, leading, outputsOf}
-use Rattle.catalogue.specs.Call as call
-use Rattle.catalogue.specs.Call.{entriesOf, catalogueOf}
+use Rattle.catalogue.specs.Call.{entriesOf, catalogueChecks, catalogueOf}
 use Rattle.transcript.specs.Text.{bytes, digitsIn, digits}
 use Rattle.transcript.specs.Lines.{stepLine, serverLine, openLine}
 use Rattle.rehearsal.specs.Script.{ended, before, readOn, scriptIn, script}

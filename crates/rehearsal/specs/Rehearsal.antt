@@ -4,7 +4,6 @@ use mathlib.Core.Bool.{cond}
 use mathlib.Core.List.{List, [], _∷_, _++_}
 use lib.ListN.{length, drop, replicate}
 use lib.Dec.{ltb}
-use Rattle.command.specs.Command.{cabinetLimits}
 use Rattle.state.specs.declared.Sizes.{Sizes}
 use Rattle.state.specs.declared.Answer.the-variants as answer
 use Rattle.layout.specs.Places.{sizesFit}
@@ -37,7 +36,7 @@ unfoldable pub countsLine : ℕ → Listing → List ℕ
 countsLine p l = serverLine p (takenOf l) (skippedOf l)
 
 unfoldable pub lineOf : List ℕ → ℕ → List ℕ
-lineOf room p = countsLine p (catalogueOf cabinetLimits room p (replicate pieces 0))
+lineOf room p = countsLine p (catalogueOf room p (replicate pieces 0))
 
 -- "then a line per server": the lines of the first n
 unfoldable pub serverLines : List ℕ → ℕ → List ℕ

@@ -15,7 +15,7 @@ use Rattle.synod.specs.Rules.{ruleOf, bidRule, finishRule, offerRule, outbidRul
 use Rattle.layout.specs.Places.{slotLength, roomLength, slotAt, serverAt, nthBlockAt, blockAt, sizesFit}
 use Rattle.layout.specs.Cells.{serverOf, putServer, blockOf, putBlock}
 use Rattle.range.specs.Range.{legalDrives, legalReads, valueFits, numbersFit, serverFits, blockFits, serversFit, blocksFit, slotFits, cellsFit, inRange}
-use Rattle.room.specs.Open.{openedCells, opening, opened}
+use Rattle.room.specs.Open.{openChecks, openedCells, opening, opened}
 use Rattle.room.specs.Judge.{effectOf, stepChecks, judged}
 use Rattle.room.specs.Step.{failedBelow, settled, answered, stepped}
 use Rattle.starred.specs.Runs.{newRoom, own, onDrive, sameAnswer, sameBlock, follows}

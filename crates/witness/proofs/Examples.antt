@@ -12,11 +12,10 @@ use Rattle.synod.specs.Rules.{ruleOf, finishRule, offerRule, outbidRule, readRu
 use Rattle.layout.specs.Places.{slotLength, roomLength, slotAt, serverAt, nthBlockAt, blockAt, sizesFit}
 use Rattle.layout.specs.Cells.{serverOf, putServer, blockOf, putBlock}
 use Rattle.range.specs.Range.{legalDrives, legalReads, valueFits, numbersFit, serverFits, blockFits, serversFit, blocksFit, slotFits, cellsFit, inRange}
-use Rattle.room.specs.Open.{openedCells, opening, opened}
+use Rattle.room.specs.Open.{openChecks, openedCells, opening, opened}
 use Rattle.room.specs.Judge.{effectOf, stepChecks, judged}
 use Rattle.room.specs.Step.{failedBelow, settled, answered, stepped}
-use Rattle.catalogue.specs.Call as call
-use Rattle.catalogue.specs.Call.{entriesOf, catalogueOf, catalogueCells}
+use Rattle.catalogue.specs.Call.{entriesOf, catalogueChecks, catalogueOf, catalogueCells}
 use Rattle.catalogue.specs.Entry.{applies, entry}
 use Rattle.catalogue.specs.Fold.{cellsAfter, skippedBy, folded}
 use Rattle.catalogue.specs.Outputs.{outputAt, leading, outputsOf}
@@ -37,7 +36,7 @@ unfolding survivor rivals gap newRoom sameAnswer follows stepsOf ran onesIn ones
     slotLength roomLength slotAt serverAt nthBlockAt blockAt sizesFit serverOf putServer blockOf putBlock
     legalDrives legalReads valueFits numbersFit serverFits blockFits serversFit blocksFit slotFits cellsFit inRange
     openedCells openChecks opening opened stepChecks effectOf ruleOf judged failedBelow settled answered stepped
-    applies entry cellsAfter skippedBy folded outputAt leading outputsOf entriesOf call.must catalogueOf catalogueCells
+    applies entry cellsAfter skippedBy folded outputAt leading outputsOf entriesOf catalogueChecks catalogueOf catalogueCells
     eventsOf said commandsOf firstOutput outputBy moveOf
 computed = (
   record {

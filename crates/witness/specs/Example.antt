@@ -5,7 +5,6 @@ use mathlib.Core.List.{List, [], _∷_}
 use mathlib.Core.Path.{_≡_}
 use lib.Dec.{eqb}
 use lib.ListN.{getD, take, replicate}
-use Rattle.command.specs.Command.{cabinetLimits}
 use Rattle.state.specs.declared.Sizes.{Sizes}
 use Rattle.state.specs.declared.Step.{Step}
 use Rattle.state.specs.Answers.{codeOf, numberOf}
@@ -60,8 +59,8 @@ lent = replicate pieces 9
 
 -- server p's catalogue at the end, as computed
 pub record Lists (e : Example) (p : ℕ) : Type 0 where
-  pub answer : catalogueOf cabinetLimits (lastRoom e) p lent ≡ Counted (getD (e .taken) p 0) 0
-  pub cells : catalogueCells cabinetLimits (lastRoom e) p lent ≡ getD (e .left) p []
+  pub answer : catalogueOf (lastRoom e) p lent ≡ Counted (getD (e .taken) p 0) 0
+  pub cells : catalogueCells (lastRoom e) p lent ≡ getD (e .left) p []
 
 -- as demand 3 has it: the result of the first commands of the run
 abbrev pub IsFirst : Example → ℕ → Type 0
