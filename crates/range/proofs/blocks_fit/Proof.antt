@@ -24,10 +24,27 @@ Inv-loop room limits first count j₀ j = (j ≤ count) × (allBelow j (each roo
 abbrev μ-loop : tie.MeasureT-loop
 μ-loop room limits first count j₀ j = count - j
 
+abbrev Start : Type 0
+Start = tie.Start Inv-loop μ-loop
+
+abbrev test : Start → ℕ → Bool
+test c = each (c .args .room .now) (c .args .limits .now) (c .args .first)
+
+-- a turn of the loop, with its block judged
+abbrev Turn : Type 0
+Turn = tie.After-block-fits Inv-loop μ-loop
+
+abbrev start : Turn → Start
+start c = c .before .before .before .before .before
+
+abbrev nth : Turn → ℕ
+nth c = c .before .before .before .loop .j
+
+judged : (c : Turn) → c .block-fits .result ≡ test (start c) (nth c)
+judged c = c .block-fits .ensures ∙ ap (blockFits (start c .args .limits .now)) (c .before .block-in .ensures)
+
 loop-holds : tie.Need-loop-holds Inv-loop μ-loop
-loop-holds c =
-    let at-args = c .before .args in
-    (omega arith, all-none (each (at-args .room .now) (at-args .limits .now) (at-args .first)))
+loop-holds c = (omega arith, all-none (test (c .before)))
 
 mul-block-in : tie.Need-mul-block-in Inv-loop μ-loop
 mul-block-in c = omega arith
@@ -43,14 +60,10 @@ block-fits-requires c κs = search needs
 
 returns : tie.Need-returns Inv-loop μ-loop
 returns c =
-    let at-args = c .before .before .before .before .before .before .args in
-    let at-loop = c .before .before .before .before .loop in
-    let at-loop-test = c .before .before .before .loop-test in
-    let at-block-fits = c .before .block-fits in
-    let at-block-in = c .before .before .block-in in
-    let at-if1 = c .if1 in
-    sym (all-fails (at-args .count) (each (at-args .room .now) (at-args .limits .now) (at-args .first)) (at-loop .j) (at-loop-test .taken)
-    (sym (at-block-fits .ensures ∙ ap (blockFits (at-args .limits .now)) (at-block-in .ensures)) ∙ not-true _ (at-if1 .taken)))
+    let t = c .before in
+    sym
+    (all-fails (start t .args .count) (test (start t)) (nth t) (t .before .before .loop-test .taken)
+    (sym (judged t) ∙ not-true _ (c .if1 .taken)))
 
 add-j : tie.Need-add-j Inv-loop μ-loop
 add-j c = omega arith
@@ -60,21 +73,14 @@ loop-less c = omega arith
 
 loop-again : tie.Need-loop-again Inv-loop μ-loop
 loop-again c =
-    let at-loop = c .before .before .before .before .loop in
-    let at-args = c .before .before .before .before .before .before .args in
-    let at-block-fits = c .before .block-fits in
-    let at-block-in = c .before .before .block-in in
-    let at-if1 = c .if1 in (
-      omega arith,
-      all-more (at-loop .j) (each (at-args .room .now) (at-args .limits .now) (at-args .first)) (at-loop .inv .1)
-          (sym (at-block-fits .ensures ∙ ap (blockFits (at-args .limits .now)) (at-block-in .ensures)) ∙ not-false _ (at-if1 .left)),
-    )
+    let t = c .before in
+    (omega arith, all-more (nth t) (test (start t)) (t .before .before .before .loop .inv .1) (sym (judged t) ∙ not-false _ (c .if1 .left)))
 
 returns-2 : tie.Need-returns-2 Inv-loop μ-loop
 returns-2 c =
-    let at-loop = c .before .loop in
-    let at-args = c .before .before .before .args in
-    let e : at-loop .j ≡ at-args .count = omega arith in rw e at (sym (at-loop .inv .1))
+    let loop = c .before .loop in
+    let e : loop .j ≡ c .before .before .before .args .count = omega arith in
+    rw e at (sym (loop .inv .1))
 
 pub blocks-fit-spec : {M : Type 1} → statement M
 blocks-fit-spec =

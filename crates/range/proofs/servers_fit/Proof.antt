@@ -25,10 +25,27 @@ Inv-loop room limits k first count p₀ p = (p ≤ count) × (allBelow p (each r
 abbrev μ-loop : tie.MeasureT-loop
 μ-loop room limits k first count p₀ p = count - p
 
+abbrev Start : Type 0
+Start = tie.Start Inv-loop μ-loop
+
+abbrev test : Start → ℕ → Bool
+test c = each (c .args .room .now) (c .args .limits .now) (c .args .k) (c .args .first)
+
+-- a turn of the loop, with its record judged
+abbrev Turn : Type 0
+Turn = tie.After-server-fits Inv-loop μ-loop
+
+abbrev start : Turn → Start
+start c = c .before .before .before .before .before
+
+abbrev nth : Turn → ℕ
+nth c = c .before .before .before .loop .p
+
+judged : (c : Turn) → c .server-fits .result ≡ test (start c) (nth c)
+judged c = c .server-fits .ensures ∙ ap (serverFits (start c .args .limits .now) (start c .args .k)) (c .before .server-in .ensures)
+
 loop-holds : tie.Need-loop-holds Inv-loop μ-loop
-loop-holds c =
-    let at-args = c .before .args in
-    (omega arith, all-none (each (at-args .room .now) (at-args .limits .now) (at-args .k) (at-args .first)))
+loop-holds c = (omega arith, all-none (test (c .before)))
 
 mul-server-in : tie.Need-mul-server-in Inv-loop μ-loop
 mul-server-in c = omega arith
@@ -44,14 +61,10 @@ server-fits-requires c κs = search needs
 
 returns : tie.Need-returns Inv-loop μ-loop
 returns c =
-    let at-args = c .before .before .before .before .before .before .args in
-    let at-loop = c .before .before .before .before .loop in
-    let at-loop-test = c .before .before .before .loop-test in
-    let at-server-fits = c .before .server-fits in
-    let at-server-in = c .before .before .server-in in
-    let at-if1 = c .if1 in
-    sym (all-fails (at-args .count) (each (at-args .room .now) (at-args .limits .now) (at-args .k) (at-args .first)) (at-loop .p) (at-loop-test .taken)
-    (sym (at-server-fits .ensures ∙ ap (serverFits (at-args .limits .now) (at-args .k)) (at-server-in .ensures)) ∙ not-true _ (at-if1 .taken)))
+    let t = c .before in
+    sym
+    (all-fails (start t .args .count) (test (start t)) (nth t) (t .before .before .loop-test .taken)
+    (sym (judged t) ∙ not-true _ (c .if1 .taken)))
 
 add-p : tie.Need-add-p Inv-loop μ-loop
 add-p c = omega arith
@@ -61,21 +74,14 @@ loop-less c = omega arith
 
 loop-again : tie.Need-loop-again Inv-loop μ-loop
 loop-again c =
-    let at-loop = c .before .before .before .before .loop in
-    let at-args = c .before .before .before .before .before .before .args in
-    let at-server-fits = c .before .server-fits in
-    let at-server-in = c .before .before .server-in in
-    let at-if1 = c .if1 in (
-      omega arith,
-      all-more (at-loop .p) (each (at-args .room .now) (at-args .limits .now) (at-args .k) (at-args .first)) (at-loop .inv .1)
-          (sym (at-server-fits .ensures ∙ ap (serverFits (at-args .limits .now) (at-args .k)) (at-server-in .ensures)) ∙ not-false _ (at-if1 .left)),
-    )
+    let t = c .before in
+    (omega arith, all-more (nth t) (test (start t)) (t .before .before .before .loop .inv .1) (sym (judged t) ∙ not-false _ (c .if1 .left)))
 
 returns-2 : tie.Need-returns-2 Inv-loop μ-loop
 returns-2 c =
-    let at-loop = c .before .loop in
-    let at-args = c .before .before .before .args in
-    let e : at-loop .p ≡ at-args .count = omega arith in rw e at (sym (at-loop .inv .1))
+    let loop = c .before .loop in
+    let e : loop .p ≡ c .before .before .before .args .count = omega arith in
+    rw e at (sym (loop .inv .1))
 
 pub servers-fit-spec : {M : Type 1} → statement M
 servers-fit-spec =
