@@ -3,13 +3,15 @@ use Prim.Native.Nat.{ℕ, _<_, _≤_}
 use mathlib.Core.Bool.{false}
 use mathlib.Core.List.{List}
 use mathlib.Core.Logic.{_⊎_, inl, inr}
-use mathlib.Core.Path.{_≡_, refl, sym, subst}
+use mathlib.Core.Path.{_≡_, refl}
 use native.Mathlib.Omega.{arith}
 use borrow.Author.Tests.{ltb-true, leb-true, not-true}
 use lib.ListN.{length, getD}
 use Rattle.state.specs.declared.Step.{Step}
+use Rattle.checks.specs.Refusals.{refusalsOf, lowest}
 use Rattle.checks.proofs.CheckLaws.{must-cases}
-use Rattle.record.specs.Answers.{readRefusal, Reads}
+use Rattle.checks.proofs.LowestLaws.{first-applies}
+use Rattle.record.specs.Answers.{readRefusal}
 use Rattle.record.specs.Fields.{maskOf, stepOf, withValues}
 use Rattle.record.specs.Map.{widths, recordLength, unknown, malformed, asksMore, zeroAmong}
 use Rattle.record.specs.Read.{readChecks, readingOf, valuesAt}
@@ -37,7 +39,7 @@ accepted bytes {step} {used} =
     let m = getD bytes 0 0 in
     let kind = getD bytes 1 0 in
     let P : Reading → Type 0 = λ a. a ≡ Decoded step used → Accepted bytes step used in
-    let stop : (n : ℕ) → P (Refused n) = λ n e. absurd (subst (λ (r : Reading). Reads r step used) (sym e) (refl, refl)) in
+    let stop : (n : ℕ) → P (Refused n) = λ n e. let none : _≡_ {A = ℕ} 0 1 = cc in absurd (omega arith) in
     must-cases Refused P _ 14 _ (stop 14) (λ some.
     must-cases Refused P _ 15 _ (stop 15) (λ small.
     must-cases Refused P _ 14 _ (stop 14) (λ two.
@@ -71,6 +73,11 @@ used-bounds bytes {step} {used} read =
     let is = h .used-is in
     let enough = h .enough in
     record { least = omega arith; most = omega arith; within = omega arith }
+
+-- reading answers the number of the first check that is not passed, and 0 where all are
+pub read-first : (bytes : List ℕ) → readRefusal (readingOf bytes) ≡ lowest (refusalsOf (readChecks bytes))
+unfolding readingOf readChecks
+read-first bytes = first-applies Refused readRefusal (λ n. refl) (readChecks bytes) refl
 
 -- a number that reading can give: 0 with a step, 14 or 15
 abbrev pub ReadNumber : ℕ → Type 0
