@@ -1,8 +1,10 @@
 -- `play` meets its contract: open answers that the room is opened or, since the row is exact, that the sizes do not fit.
 use native.Mathlib.Omega.{arith}
-use mathlib.Core.Path.{_∙_, sym}
+use mathlib.Core.Path.{_≡_, _∙_, sym}
 use lib.ListN.{drop}
 use Rattle.layout.proofs.PlaceLaws.{fit-of}
+use Rattle.room.specs.declared.opening.Opening.the-variants.{Opened}
+use Rattle.room.specs.Open.{opening}
 use Rattle.rehearsal.specs.Script.{script}
 use Rattle.rehearsal.proofs.OpenedLaws.{opened-fits, opened-text, refused-text}
 use borrow.Author.Needs.{needs}
@@ -18,16 +20,25 @@ enum-told c = search needs
 steps-requires : tie.Need-steps-requires
 steps-requires c κs = search needs
 
+-- the servers' lines are next: the steps were taken, in a room that open answered to have opened
+module _ (c : tie.After-servers-arg2) where
+  abbrev walked : tie.After-steps
+  walked = c .before .before .before .before .before .before
+
+  abbrev asked : tie.After-open
+  asked = walked .before .before .before .before .before .before .before
+
+  abbrev start : tie.Start
+  start = asked .before .before .before .before .before
+
+  is-open : opening (start .args .z) (start .args .room .now) ≡ Opened
+  is-open = sym (asked .«open» .ensures .0) ∙ walked .before .before .before .enum-told .given .1
+
 servers-requires : tie.Need-servers-requires
 servers-requires c κs =
-    let at-args = c .before .before .before .before .before .before .before .before .before .before .before .before .before .before .before .before .before .before .args in
-    let at-open = c .before .before .before .before .before .before .before .before .before .before .before .before .before .«open» in
-    let at-enum-told = c .before .before .before .before .before .before .before .before .before .enum-told in
-    let at-steps = c .before .before .before .before .before .before .steps in
-    let z = at-args .z in
-    let fit = fit-of z (opened-fits z (at-args .room .now) (sym (at-open .ensures .0) ∙ at-enum-told .given .1)) in
-    let few = at-steps .ensures .few in
-    omega (arith, fit .servers, at-steps .kept .1 .0)
+    let a = start c .args in
+    let fit = fit-of (a .z) (opened-fits (a .z) (a .room .now) (is-open c)) in
+    omega (arith, fit .servers, walked c .steps .ensures .few, walked c .steps .kept .1 .0)
 
 enum-known-number : tie.Need-enum-known-number
 enum-known-number c = search needs
@@ -43,13 +54,9 @@ same-length-2 c = search needs
 
 returns : tie.Need-returns
 returns c =
-    let at-args = c .before .before .before .before .before .before .before .before .before .before .before .before .before .before .before .before .before .before .before .before .before .args in
-    let at-open = c .before .before .before .before .before .before .before .before .before .before .before .before .before .before .before .before .«open» in
-    let at-enum-told = c .before .before .before .before .before .before .before .before .before .before .before .before .enum-told in
-    let at-steps = c .before .before .before .before .before .before .before .before .before .steps in
-    let at-servers = c .before .before .servers in
-    opened-text (at-args .z) (at-args .room .now) (sym (at-open .ensures .0) ∙ at-enum-told .given .1) (at-open .ensures .1)
-    (search needs) (at-steps .ensures) (at-servers .ensures)
+    let s = c .before .before .before in
+    opened-text (start s .args .z) (start s .args .room .now) (is-open s) (asked s .«open» .ensures .1) (search needs)
+    (walked s .steps .ensures) (c .before .before .servers .ensures)
 
 same-length-3 : tie.Need-same-length-3
 same-length-3 c = search needs
@@ -59,12 +66,11 @@ same-length-4 c = search needs
 
 returns-2 : tie.Need-returns-2
 returns-2 c =
-    let at-args = c .before .before .before .before .before .before .before .before .before .before .before .before .before .before .args in
-    let at-open = c .before .before .before .before .before .before .before .before .before .«open» in
-    let at-number = c .before .before .before .before .before .number in
-    let at-open-line = c .before .before .open-line in
-    refused-text (at-args .z) (at-args .room .now) (script (drop 3 (at-args .input .now))) (search needs)
-    (sym (at-open .ensures .0) ∙ at-number .given .1) (search needs) (search needs) (at-open-line .ensures)
+    let refused = c .before .before .before .before .before in
+    let call = refused .before .before .before .before in
+    let a = call .before .before .before .before .before .args in
+    refused-text (a .z) (a .room .now) (script (drop 3 (a .input .now))) (search needs)
+    (sym (call .«open» .ensures .0) ∙ refused .number .given .1) (search needs) (search needs) (c .before .before .open-line .ensures)
 
 pub play-spec : {M : Type 1} → statement M
 play-spec =

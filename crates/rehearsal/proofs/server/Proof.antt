@@ -34,22 +34,19 @@ same-length c = search needs
 returns : tie.Need-returns
 unfolding countsLine lineOf
 returns c =
-    let at-args = c .before .before .before .before .before .before .before .before .before .before .before .args in
-    let at-taken = c .before .before .before .before .taken in
-    let at-skipped = c .before .before .before .skipped in
-    let at-catalogue = c .before .before .before .before .before .before .before .catalogue in
-    let at-server-line = c .before .before .server-line in
-    let p = at-args .p in
-    let taken = at-taken .result in
-    let skipped = at-skipped .result in
-    let listing = at-catalogue .result in
-    let line : serverLine p taken skipped ≡ lineOf (at-args .room .now) p =
-    ap (λ (n : ℕ). serverLine p n skipped) (at-taken .ensures)
-    ∙ ap (λ (n : ℕ). serverLine p (takenOf listing) n) (at-skipped .ensures)
-    ∙ ap (countsLine p) (at-catalogue .ensures .0) in
-    let short : length (serverLine p taken skipped) ≤ lineMax = server-max p taken skipped (search needs) (search needs) (search needs) in
-    subst (λ (l : List ℕ). Added (at-args .out .now) (at-args .at) l (at-server-line .last .0) (at-server-line .result) lineMax) line
-    (added (at-server-line .ensures) (search needs) short)
+    let printed = c .before .before .server-line in
+    let counted = c .before .before .before .skipped in
+    let entered = c .before .before .before .before .taken in
+    let listed = c .before .before .before .before .before .before .before in
+    let a = listed .before .before .before .before .args in
+    let line : serverLine (a .p) (entered .result) (counted .result) ≡ lineOf (a .room .now) (a .p) =
+    ap (λ (n : ℕ). serverLine (a .p) n (counted .result)) (entered .ensures)
+    ∙ ap (λ (n : ℕ). serverLine (a .p) (takenOf (listed .catalogue .result)) n) (counted .ensures)
+    ∙ ap (countsLine (a .p)) (listed .catalogue .ensures .0) in
+    let short : length (serverLine (a .p) (entered .result) (counted .result)) ≤ lineMax =
+    server-max (a .p) (entered .result) (counted .result) (search needs) (search needs) (search needs) in
+    subst (λ (l : List ℕ). Added (a .out .now) (a .at) l (printed .last .0) (printed .result) lineMax) line
+    (added (printed .ensures) (search needs) short)
 
 pub server-spec : {M : Type 1} → statement M
 server-spec =

@@ -36,21 +36,17 @@ loop-less c = omega arith
 
 loop-again : tie.Need-loop-again Inv-loop μ-loop
 loop-again c =
-    let at-args = c .before .before .before .before .before .before .before .before .args in
-    let at-loop = c .before .before .before .before .before .loop in
-    let at-loop = c .before .before .before .before .before .loop in
-    let at-server = c .before .before .server in
-    (more-servers (at-args .room .now) (at-loop .p) (at-loop .inv .0) (at-server .ensures), omega arith, search needs)
+    let t = c .before .before .before .before .before in
+    let a = t .before .before .before .args in
+    (more-servers (a .room .now) (t .loop .p) (t .loop .inv .0) (c .before .before .server .ensures), omega arith, search needs)
 
 same-length : tie.Need-same-length Inv-loop μ-loop
 same-length c = search needs
 
 returns : tie.Need-returns Inv-loop μ-loop
 returns c =
-    let at-args = c .before .before .before .before .args in
-    let at-loop = c .before .loop in
-    let at-loop = c .before .loop in
-    all-servers (at-args .room .now) (at-loop .inv .0) (omega arith)
+    let t = c .before in
+    all-servers (t .before .before .before .args .room .now) (t .loop .inv .0) (omega arith)
 
 pub servers-spec : {M : Type 1} → statement M
 servers-spec =
