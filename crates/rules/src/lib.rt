@@ -38,7 +38,7 @@ pub fn recall(off: u32, v: Server, b: Block, p: u8, d: u8) -> Ruling
         return Ruling::Refused(8);
     }
     let mut w = v;
-    w.read = with_mark(v.read, 4 * (d as u32) + (p as u32));
+    w.read = with_mark(v.read, drives::read_bit(d as u32, p as u32));
     w.top = larger(v.top, b.mbal);
     Ruling::Accepted(meet(w, b), Answer::Done)
 }
@@ -116,7 +116,7 @@ pub fn read(servers: u32, off: u32, v: Server, b: Block, p: u8, d: u8, q: u8) ->
         return outbid(servers, v, p, b.mbal);
     }
     let mut w = v;
-    w.read = with_mark(v.read, 4 * (d as u32) + (q as u32));
+    w.read = with_mark(v.read, drives::read_bit(d as u32, q as u32));
     Ruling::Accepted(meet(w, b), Answer::Done)
 }
 

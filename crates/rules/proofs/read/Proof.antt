@@ -60,11 +60,8 @@ returns-4 c =
     let at-outbid = c .outbid in
     simp (sym (at-in-ballot .ensures) ∙ not-false _ (at-if1 .left), sym (at-has-mark .ensures) ∙ at-if2 .left, sym (at-has-mark2 .ensures) ∙ not-false _ (at-if3 .left), le-ltb _ _ (at-if4 .taken), at-outbid .ensures)
 
-mul-with-mark : tie.Need-mul-with-mark
-mul-with-mark c = search needs
-
-add-with-mark : tie.Need-add-with-mark
-add-with-mark c = search needs
+read-bit-requires : tie.Need-read-bit-requires
+read-bit-requires c κs = search needs
 
 with-mark-requires : tie.Need-with-mark-requires
 with-mark-requires c κs = search needs
@@ -75,16 +72,17 @@ meet-requires c κs = search needs
 returns-5 : tie.Need-returns-5
 unfolding must readRule reading marking
 returns-5 c =
-    let at-in-ballot = c .before .before .before .before .before .before .before .before .before .before .in-ballot in
-    let at-if1 = c .before .before .before .before .before .before .before .before .before .if1 in
-    let at-has-mark = c .before .before .before .before .before .before .before .before .has-mark in
-    let at-if2 = c .before .before .before .before .before .before .before .if2 in
-    let at-has-mark2 = c .before .before .before .before .before .before .has-mark2 in
-    let at-if3 = c .before .before .before .before .before .if3 in
-    let at-if4 = c .before .before .if4 in
+    let at-in-ballot = c .before .before .before .before .before .before .before .before .before .before .before .in-ballot in
+    let at-if1 = c .before .before .before .before .before .before .before .before .before .before .if1 in
+    let at-has-mark = c .before .before .before .before .before .before .before .before .before .has-mark in
+    let at-if2 = c .before .before .before .before .before .before .before .before .if2 in
+    let at-has-mark2 = c .before .before .before .before .before .before .before .has-mark2 in
+    let at-if3 = c .before .before .before .before .before .before .if3 in
+    let at-if4 = c .before .before .before .if4 in
     let at-meet = c .meet in
     let at-with-mark = c .before .with-mark in
-    simp (sym (at-in-ballot .ensures) ∙ not-false _ (at-if1 .left), sym (at-has-mark .ensures) ∙ at-if2 .left, sym (at-has-mark2 .ensures) ∙ not-false _ (at-if3 .left), lt-ltb _ _ (at-if4 .left), at-meet .ensures, at-with-mark .ensures)
+    let at-read-bit = c .before .before .read-bit in
+    simp (sym (at-in-ballot .ensures) ∙ not-false _ (at-if1 .left), sym (at-has-mark .ensures) ∙ at-if2 .left, sym (at-has-mark2 .ensures) ∙ not-false _ (at-if3 .left), lt-ltb _ _ (at-if4 .left), at-meet .ensures, at-with-mark .ensures, at-read-bit .ensures)
 
 pub read-spec : {M : Type 1} → statement M
 read-spec =
@@ -98,8 +96,7 @@ read-spec =
     returns-3
     outbid-requires
     returns-4
-    mul-with-mark
-    add-with-mark
+    read-bit-requires
     with-mark-requires
     meet-requires
     returns-5)

@@ -25,11 +25,8 @@ returns-2 c =
     let at-if2 = c .if2 in
     simp (eq-eqb _ _ (at-if1 .left), sym (at-has-mark .ensures) ∙ at-if2 .taken)
 
-mul-with-mark : tie.Need-mul-with-mark
-mul-with-mark c = search needs
-
-add-with-mark : tie.Need-add-with-mark
-add-with-mark c = search needs
+read-bit-requires : tie.Need-read-bit-requires
+read-bit-requires c κs = search needs
 
 with-mark-requires : tie.Need-with-mark-requires
 with-mark-requires c κs = search needs
@@ -43,13 +40,14 @@ meet-requires c κs = search needs
 returns-3 : tie.Need-returns-3
 unfolding must recallRule recalling topping marking
 returns-3 c =
-    let at-if1 = c .before .before .before .before .before .if1 in
-    let at-has-mark = c .before .before .before .before .has-mark in
-    let at-if2 = c .before .before .before .if2 in
+    let at-if1 = c .before .before .before .before .before .before .if1 in
+    let at-has-mark = c .before .before .before .before .before .has-mark in
+    let at-if2 = c .before .before .before .before .if2 in
     let at-meet = c .meet in
     let at-larger = c .before .larger in
     let at-with-mark = c .before .before .with-mark in
-    simp (eq-eqb _ _ (at-if1 .left), sym (at-has-mark .ensures) ∙ at-if2 .left, at-meet .ensures, at-larger .ensures, at-with-mark .ensures)
+    let at-read-bit = c .before .before .before .read-bit in
+    simp (eq-eqb _ _ (at-if1 .left), sym (at-has-mark .ensures) ∙ at-if2 .left, at-meet .ensures, at-larger .ensures, at-with-mark .ensures, at-read-bit .ensures)
 
 pub recall-spec : {M : Type 1} → statement M
 recall-spec =
@@ -58,8 +56,7 @@ recall-spec =
     returns
     has-mark-requires
     returns-2
-    mul-with-mark
-    add-with-mark
+    read-bit-requires
     with-mark-requires
     larger-requires
     meet-requires

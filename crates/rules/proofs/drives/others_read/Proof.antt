@@ -8,6 +8,7 @@ use mathlib.Core.Path.{_≡_, _∙_, sym, ap}
 use mathlib.Core.Bool.{Bool, true, _||_}
 use lib.Dec.{eqb}
 use borrow.Author.Tests.{not-true, not-false}
+use Rattle.quorum.specs.Marks.{stands}
 use Rattle.quorum.proofs.AllBelow.{all-none, all-more, all-fails}
 use Rattle.synod.specs.Rules.{othersRead, otherRead}
 
@@ -22,24 +23,23 @@ loop-holds c =
     let at-args = c .args in
     (omega arith, all-none (otherRead (at-args .v) (at-args .p) (at-args .d)))
 
-mul-has-mark : tie.Need-mul-has-mark Inv-loop μ-loop
-mul-has-mark c = omega arith
-
-add-has-mark : tie.Need-add-has-mark Inv-loop μ-loop
-add-has-mark c = omega arith
+read-bit-requires : tie.Need-read-bit-requires Inv-loop μ-loop
+read-bit-requires c κs = search needs
 
 has-mark-requires : tie.Need-has-mark-requires Inv-loop μ-loop
 has-mark-requires c κs = search needs
 
 returns : tie.Need-returns Inv-loop μ-loop
 returns c =
-    let at-args = c .before .before .before .before .args in
-    let at-loop = c .before .before .before .loop in
-    let at-loop-test = c .before .before .loop-test in
+    let at-args = c .before .before .before .before .before .args in
+    let at-loop = c .before .before .before .before .loop in
+    let at-loop-test = c .before .before .before .loop-test in
+    let at-read-bit = c .before .before .read-bit in
     let at-has-mark = c .before .has-mark in
     let at-if1 = c .if1 in
+    let test = ap (stands (at-args .v .read)) (sym (at-read-bit .ensures)) ∙ sym (at-has-mark .ensures) in
     sym (all-fails (at-args .servers) (otherRead (at-args .v) (at-args .p) (at-args .d)) (at-loop .q) (at-loop-test .taken)
-    (ap (λ (b : Bool). eqb (at-loop .q) (at-args .p) || b) (sym (at-has-mark .ensures)) ∙ not-true _ (at-if1 .taken)))
+    (ap (λ (b : Bool). eqb (at-loop .q) (at-args .p) || b) test ∙ not-true _ (at-if1 .taken)))
 
 add-q : tie.Need-add-q Inv-loop μ-loop
 add-q c = omega arith
@@ -49,13 +49,15 @@ loop-less c = omega arith
 
 loop-again : tie.Need-loop-again Inv-loop μ-loop
 loop-again c =
-    let at-loop = c .before .before .before .loop in
-    let at-args = c .before .before .before .before .args in
+    let at-loop = c .before .before .before .before .loop in
+    let at-args = c .before .before .before .before .before .args in
+    let at-read-bit = c .before .before .read-bit in
     let at-has-mark = c .before .has-mark in
-    let at-if1 = c .if1 in (
+    let at-if1 = c .if1 in
+    let test = ap (stands (at-args .v .read)) (sym (at-read-bit .ensures)) ∙ sym (at-has-mark .ensures) in (
       omega arith,
       all-more (at-loop .q) (otherRead (at-args .v) (at-args .p) (at-args .d)) (at-loop .inv .1)
-          (ap (λ (b : Bool). eqb (at-loop .q) (at-args .p) || b) (sym (at-has-mark .ensures)) ∙ not-false _ (at-if1 .left)),
+          (ap (λ (b : Bool). eqb (at-loop .q) (at-args .p) || b) test ∙ not-false _ (at-if1 .left)),
     )
 
 returns-2 : tie.Need-returns-2 Inv-loop μ-loop
@@ -71,8 +73,7 @@ others-read-spec =
     Inv-loop
     μ-loop
     loop-holds
-    mul-has-mark
-    add-has-mark
+    read-bit-requires
     has-mark-requires
     returns
     add-q

@@ -6,7 +6,7 @@ use native.Mathlib.Omega.{arith}
 use Prim.Native.Nat.{ℕ, _≤_, _-_}
 use mathlib.Core.Path.{_≡_, _∙_, sym, ap}
 use mathlib.Core.Logic.{⊎-elim}
-use Rattle.quorum.specs.Marks.{marked}
+use Rattle.quorum.specs.Marks.{stands, marked}
 use Rattle.quorum.specs.Sets.{gathered}
 use Rattle.quorum.proofs.Gathered.{gathered-zero, gathered-more, gathered-past}
 use Rattle.synod.specs.Rules.{recalledOn}
@@ -22,11 +22,8 @@ loop-holds c =
     let at-args = c .args in
     (omega arith, sym (gathered-zero (recalledOn (at-args .v) (at-args .p))))
 
-mul-has-mark : tie.Need-mul-has-mark Inv-loop μ-loop
-mul-has-mark c = omega arith
-
-add-has-mark : tie.Need-add-has-mark Inv-loop μ-loop
-add-has-mark c = omega arith
+read-bit-requires : tie.Need-read-bit-requires Inv-loop μ-loop
+read-bit-requires c κs = search needs
 
 has-mark-requires : tie.Need-has-mark-requires Inv-loop μ-loop
 has-mark-requires c κs = search needs
@@ -42,15 +39,17 @@ loop-less c = omega arith
 
 loop-again : tie.Need-loop-again Inv-loop μ-loop
 loop-again c =
-    let at-loop = c .before .before .before .loop in
-    let at-args = c .before .before .before .before .args in
+    let at-loop = c .before .before .before .before .loop in
+    let at-args = c .before .before .before .before .before .args in
+    let at-read-bit = c .before .before .read-bit in
     let at-has-mark = c .before .has-mark in
-    let at-if1 = c .if1 in (
+    let at-if1 = c .if1 in
+    let test = ap (stands (at-args .v .read)) (sym (at-read-bit .ensures)) ∙ sym (at-has-mark .ensures) in (
       omega arith,
       ⊎-elim
           (λ w. w .2 ∙ w .1 .ensures ∙ ap (λ (m : ℕ). marked m (at-loop .d)) (at-loop .inv .1)
-          ∙ gathered-more (at-loop .d) (recalledOn (at-args .v) (at-args .p)) (omega arith) (sym (at-has-mark .ensures) ∙ w .0 .taken))
-          (λ w. w .1 ∙ at-loop .inv .1 ∙ gathered-past (at-loop .d) (recalledOn (at-args .v) (at-args .p)) (sym (at-has-mark .ensures) ∙ w .0 .left))
+          ∙ gathered-more (at-loop .d) (recalledOn (at-args .v) (at-args .p)) (omega arith) (test ∙ w .0 .taken))
+          (λ w. w .1 ∙ at-loop .inv .1 ∙ gathered-past (at-loop .d) (recalledOn (at-args .v) (at-args .p)) (test ∙ w .0 .left))
           (at-if1 .came),
     )
 
@@ -67,8 +66,7 @@ recalled-spec =
     Inv-loop
     μ-loop
     loop-holds
-    mul-has-mark
-    add-has-mark
+    read-bit-requires
     has-mark-requires
     with-mark-requires
     add-d
