@@ -4,14 +4,10 @@ use Rattle.rules.proofs.command_of.Tie as tie
 use borrow.Author.Tests.{eq-eqb, ne-eqb}
 
 returns : tie.Need-returns
-returns c =
-    let at-if1 = c .if1 in
-    simp (eq-eqb _ _ (at-if1 .taken))
+returns c = simp (eq-eqb _ _ (c .if1 .taken))
 
 returns-2 : tie.Need-returns-2
-returns-2 c =
-    let at-if1 = c .if1 in
-    simp (ne-eqb _ _ (at-if1 .left))
+returns-2 c = simp (ne-eqb _ _ (c .if1 .left))
 
 pub command-of-spec : {M : Type 1} → statement M
 command-of-spec = tie.close (tie.spec returns returns-2)

@@ -13,12 +13,6 @@ use mathlib.Core.List.{List, [], _∷_}
 use Prim.Native.Nat.{ℕ}
 use mathlib.Core.Bool.{true}
 
-enum-known-step : tie.Need-enum-known-step
-enum-known-step c = search needs
-
-is-command-requires : tie.Need-is-command-requires
-is-command-requires c κs = search needs
-
 -- the numbers of the kinds but Offer
 abbrev others : List ℕ
 others = 1 ∷ 2 ∷ 3 ∷ 4 ∷ 5 ∷ 6 ∷ 7 ∷ 8 ∷ 9 ∷ []
@@ -39,17 +33,10 @@ only-offer limits (DriveOn d) k = refl
 
 returns : tie.Need-returns
 unfolding commandFits
-returns c =
-    let at-is-command = c .is-command in
-    let at-args = c .before .before .before .before .args in
-    let at-step = c .before .before .step in
-    at-is-command .ensures ∙ sym (ap (commandFits (at-args .limits .now)) (at-step .given .1))
+returns c = c .is-command .ensures ∙ sym (ap (commandFits _) (c .before .before .step .given .1))
 
 returns-2 : tie.Need-returns-2
-returns-2 c =
-    let at-args = c .before .args in
-    let at-match = c .match in
-    only-offer (at-args .limits .now) (at-args .step) (at-match .keys2)
+returns-2 c = only-offer _ (c .before .args .step) (c .match .keys2)
 
 pub command-fits-spec : {M : Type 1} → statement M
-command-fits-spec = tie.close (tie.spec enum-known-step is-command-requires returns returns-2)
+command-fits-spec = tie.close (tie.spec (search needs) (search needs) returns returns-2)
