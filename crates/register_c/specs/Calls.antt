@@ -17,9 +17,6 @@ use Rattle.record.specs.Fields.{fields, stepOf}
 use Rattle.record.specs.Write.{writingOf, writtenOf}
 use Rattle.room.specs.Step.{answered, stepped}
 
-abbrev pub sizes : ℕ → ℕ → ℕ → Sizes
-sizes n d s = record { servers = n; drives = d; slots = s }
-
 -- the cells of a room, 0 where the sizes do not fit
 abbrev pub lengthOf : Sizes → ℕ
 lengthOf z = cond (sizesFit z) (roomLength z) 0

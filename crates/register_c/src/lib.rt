@@ -5,12 +5,12 @@
 mod steps;
 
 ghost use mathlib.Core.Path.{_≡_};
-ghost use Rattle.state.specs.declared.Sizes.{Sizes};
+ghost use Rattle.state.specs.Sizes.{sizes};
 ghost use Rattle.room.specs.Open.{openRefusal, opening, opened};
 ghost use Rattle.record.specs.Read.{readingOf};
 ghost use Rattle.catalogue.specs.Call.{catalogueOf, catalogueCells};
 ghost use Rattle.register_c.specs.Packing.{packed, packedAnswer, packedListing, packedReading, packedWriting};
-ghost use Rattle.register_c.specs.Calls.{sizes, lengthOf, recordAnswered, recordStepped, stepBy, kindWriting, kindWritten};
+ghost use Rattle.register_c.specs.Calls.{lengthOf, recordAnswered, recordStepped, stepBy, kindWriting, kindWritten};
 use register::Listing;
 use register::Opening;
 use register::Reading;

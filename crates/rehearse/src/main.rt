@@ -10,7 +10,7 @@ fn main() {
     if rehearsal::INPUT_MAX < length {
         skip_all();
     }
-    let mut room = [0u32; 1988];
+    let mut room = [0u32; rehearsal::CELLS_MAX];
     let mut out = [0u8; rehearsal::TEXT_MAX];
     let text = rehearsal::rehearse(&input[..length], &mut room, &mut out);
     io::write_all(STDOUT_FILENO, &out[..text]);

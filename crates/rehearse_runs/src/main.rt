@@ -25,7 +25,7 @@ fn run(name: &[u8]) {
     let mut input = [0u8; rehearsal::INPUT_MAX + 1];
     let length = io::read_full(file, &mut input);
     libc::close(file);
-    let mut room = [0u32; 1988];
+    let mut room = [0u32; rehearsal::CELLS_MAX];
     let mut out = [0u8; rehearsal::TEXT_MAX];
     let text = rehearsal::rehearse(&input[..length], &mut room, &mut out);
     io::write_all(STDOUT_FILENO, &out[..text]);

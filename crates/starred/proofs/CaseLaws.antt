@@ -20,7 +20,8 @@ use Rattle.layout.proofs.PlaceLaws.{fit-of, of-fit}
 use Rattle.room.specs.declared.opening.Opening.the-variants as opening-answer
 use Rattle.room.specs.Open.{openRefusal, opening}
 use Rattle.room.proofs.OpenLaws.{Opens, opens-1}
-use Rattle.starred.specs.Runs.{sizes, newRoom, sameAnswer}
+use Rattle.state.specs.Sizes.{sizes}
+use Rattle.starred.specs.Runs.{newRoom, sameAnswer}
 use Rattle.starred.specs.Cases.{Case, Length, Unopened, Command, NoCommand, Owned, Majority, Run, offered, IsCommand, IsUnopened, Says, isUnopened, holds}
 use Rattle.starred.proofs.RunLaws.{both, same-answer, run-says}
 

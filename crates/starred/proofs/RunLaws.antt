@@ -11,7 +11,7 @@ use Rattle.state.specs.declared.Answer.the-variants.{Done, Outbid, Chosen, Comm
 use Rattle.state.specs.declared.Block.{Block}
 use Rattle.state.specs.Answers.{codeOf, numberOf}
 use Rattle.room.specs.Step.{answered, stepped}
-use Rattle.starred.specs.Runs.{block, Line, _↝_, Own, OnDrive, own, onDrive, Follows, after, sameAnswer, sameBlock, follows}
+use Rattle.starred.specs.Runs.{block, Line, _↝_, Own, OnDrive, own, onDrive, Replays, lastCells, sameAnswer, sameBlock, replays}
 
 -- the answer with this word and this number
 abbrev fromCode : ℕ → ℕ → Answer
@@ -50,22 +50,22 @@ same-block a b e =
     let inp : a .inp ≡ b .inp = eqb-true (a .inp) (b .inp) (t .1) in
     ap₂ (λ (m n : ℕ). block m n (a .inp)) mbal bal ∙ ap (block (b .mbal) (b .bal)) inp
 
-pub run-says : (cells : List ℕ) (run : List Line) → follows cells run ≡ true → Follows cells run
-unfolding follows Follows
+pub run-says : (cells : List ℕ) (run : List Line) → replays cells run ≡ true → Replays cells run
+unfolding replays Replays
 run-says cells [] e = tt
 run-says cells (step ↝ answer ∷ run) e =
-    let t = both (sameAnswer (answered cells step) answer) (follows (stepped cells step) run) e in
+    let t = both (sameAnswer (answered cells step) answer) (replays (stepped cells step) run) e in
     (same-answer (answered cells step) answer (t .0), run-says (stepped cells step) run (t .1))
 run-says cells (Own p b ∷ run) e =
-    let t = both (sameBlock (own cells p) b) (follows cells run) e in
+    let t = both (sameBlock (own cells p) b) (replays cells run) e in
     (same-block (own cells p) b (t .0), run-says cells run (t .1))
 run-says cells (OnDrive d p b ∷ run) e =
-    let t = both (sameBlock (onDrive cells d p) b) (follows cells run) e in
+    let t = both (sameBlock (onDrive cells d p) b) (replays cells run) e in
     (same-block (onDrive cells d p) b (t .0), run-says cells run (t .1))
 
 -- what a run says from one of its places on
-pub later : (cells : List ℕ) (first rest : List Line) → Follows cells (first ++ rest) → Follows (after cells first) rest
-unfolding Follows after
+pub later : (cells : List ℕ) (first rest : List Line) → Replays cells (first ++ rest) → Replays (lastCells cells first) rest
+unfolding Replays lastCells
 later cells [] rest h = h
 later cells (step ↝ answer ∷ first) rest h = later (stepped cells step) first rest (h .1)
 later cells (Own p b ∷ first) rest h = later cells first rest (h .1)

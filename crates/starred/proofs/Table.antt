@@ -18,7 +18,7 @@ use Rattle.range.specs.Range.{legalDrives, legalReads, valueFits, numbersFit, s
 use Rattle.room.specs.Open.{openChecks, openedCells, opening, opened}
 use Rattle.room.specs.Judge.{effectOf, stepChecks, judged}
 use Rattle.room.specs.Step.{failedBelow, settled, answered, stepped}
-use Rattle.starred.specs.Runs.{newRoom, own, onDrive, sameAnswer, sameBlock, follows}
+use Rattle.starred.specs.Runs.{newRoom, own, onDrive, sameAnswer, sameBlock, replays}
 use Rattle.starred.specs.Cases.{Case, Run, Says, holds, allHold, caseAt}
 use Rattle.starred.specs.Starred.{starred}
 use Rattle.starred.proofs.RunLaws.{both}
@@ -26,7 +26,7 @@ use Rattle.starred.proofs.CaseLaws.{case-says}
 
 -- by computing every test: the line names all that the definitions of open and step are made of
 pub starred-hold : allHold starred ≡ true
-unfolding allHold starred holds newRoom own onDrive sameAnswer sameBlock follows onesIn ones
+unfolding allHold starred holds newRoom own onDrive sameAnswer sameBlock replays onesIn ones
     limitOf hoardFits isCommand owned leastAbove nextOwn stands marked allBelow size gathered majority within
     placesFit commandFits
     meeting marking topping recalling rejoining bidding writing reading proposing
@@ -37,7 +37,7 @@ unfolding allHold starred holds newRoom own onDrive sameAnswer sameBlock follows
 starred-hold = refl
 
 each : (cases : List Case) → allHold cases ≡ true → (i : ℕ) → Says (caseAt cases i)
-unfolding allHold holds follows
+unfolding allHold holds replays
 each [] e i = case-says (Run 1 1 []) refl
 each (c ∷ cases) e zero = case-says c (both (holds c) (allHold cases) e .0)
 each (c ∷ cases) e (suc i) = each cases (both (holds c) (allHold cases) e .1) i

@@ -12,7 +12,8 @@ use Rattle.state.specs.declared.Step.the-variants.{Read}
 use Rattle.layout.specs.Places.{roomLength}
 use Rattle.room.specs.Open.{openRefusal, opening}
 use Rattle.room.specs.Step.{answered, stepped}
-use Rattle.starred.specs.Runs.{sizes, block, newRoom, _↝_, Own, own, Follows, after}
+use Rattle.state.specs.Sizes.{sizes}
+use Rattle.starred.specs.Runs.{block, newRoom, _↝_, Own, own, Replays, lastCells}
 use Rattle.starred.specs.Cases.{offered}
 use Rattle.starred.specs.Starred.{met, proposed, recalled, starred}
 use Rattle.starred.proofs.RunLaws.{later}
@@ -37,28 +38,28 @@ unfolding starred
 majority-of-7 = starred-says 10
 
 -- server 1 at 2 reads server 2's block on drive 0: what follows
-finds-7 : Follows (after (newRoom (sizes 4 1 1)) met) (Read 1 0 0 2 ↝ Outbid 7 ∷ Own 1 (block 10 0 0) ∷ [])
+finds-7 : Replays (lastCells (newRoom (sizes 4 1 1)) met) (Read 1 0 0 2 ↝ Outbid 7 ∷ Own 1 (block 10 0 0) ∷ [])
 unfolding starred
 finds-7 = later (newRoom (sizes 4 1 1)) met (Read 1 0 0 2 ↝ Outbid 7 ∷ Own 1 (block 10 0 0) ∷ []) (starred-says 11)
 
-pub outbid-by-7 : answered (after (newRoom (sizes 4 1 1)) met) (Read 1 0 0 2) ≡ Outbid 7
-unfolding Follows
+pub outbid-by-7 : answered (lastCells (newRoom (sizes 4 1 1)) met) (Read 1 0 0 2) ≡ Outbid 7
+unfolding Replays
 outbid-by-7 = finds-7 .0
 
-pub now-10 : own (stepped (after (newRoom (sizes 4 1 1)) met) (Read 1 0 0 2)) 1 ≡ block 10 0 0
-unfolding Follows
+pub now-10 : own (stepped (lastCells (newRoom (sizes 4 1 1)) met) (Read 1 0 0 2)) 1 ≡ block 10 0 0
+unfolding Replays
 now-10 = finds-7 .1 .0
 
 -- server 0's own block after the two recalls and Rejoin 3
 abbrev pub rejoinedBy : ℕ → ℕ → Block
-rejoinedBy first second = own (after (newRoom (sizes 2 2 1)) (proposed ++ recalled first second)) 0
+rejoinedBy first second = own (lastCells (newRoom (sizes 2 2 1)) (proposed ++ recalled first second)) 0
 
 pub inp-on-the-first : rejoinedBy 0 1 ≡ block 3 1 66825
-unfolding starred Follows
+unfolding starred Replays
 inp-on-the-first =
     later (newRoom (sizes 2 2 1)) (proposed ++ recalled 0 1) (Own 0 (block 3 1 66825) ∷ []) (starred-says 12) .0
 
 pub inp-on-the-second : rejoinedBy 1 0 ≡ block 3 1 66825
-unfolding starred Follows
+unfolding starred Replays
 inp-on-the-second =
     later (newRoom (sizes 2 2 1)) (proposed ++ recalled 1 0) (Own 0 (block 3 1 66825) ∷ []) (starred-says 13) .0

@@ -17,7 +17,8 @@ use Rattle.state.specs.declared.Step.the-variants.{Offer}
 use Rattle.layout.specs.Places.{sizesFit, roomLength}
 use Rattle.room.specs.Open.{openRefusal, opening, opened}
 use Rattle.room.specs.Step.{answered}
-use Rattle.starred.specs.Runs.{sizes, newRoom, Line, Follows, sameAnswer, follows}
+use Rattle.state.specs.Sizes.{sizes}
+use Rattle.starred.specs.Runs.{newRoom, Line, Replays, sameAnswer, replays}
 
 -- a case by its kind, with its numbers
 pub data Case : Type 0 where
@@ -61,7 +62,7 @@ Says (Command v k p h) = IsCommand v k p h
 Says (NoCommand v number) = (isCommand cabinetLimits v ≡ false) × (offered v ≡ Refused number)
 Says (Owned n b p) = (owned n p b ≡ true) × ((q : ℕ) → q < n → owned n q b ≡ true → q ≡ p)
 Says (Majority d least) = (m : ℕ) → m < 2 ^ d → majority d (stands m) ≡ leb least (ones m)
-Says (Run n d run) = Follows (newRoom (sizes n d 1)) run
+Says (Run n d run) = Replays (newRoom (sizes n d 1)) run
 
 -- A number of servers that does not fit with one drive and one slot fits with no others, and sizes that do not fit are
 -- refused before the row is looked at: the smallest drives and slots and the empty row show the number for all.
@@ -78,7 +79,7 @@ holds (Command v k p h) =
 holds (NoCommand v number) = not (isCommand cabinetLimits v) && sameAnswer (offered v) (Refused number)
 holds (Owned n b p) = owned n p b && allBelow n (λ q. not (owned n q b) || eqb q p)
 holds (Majority d least) = allBelow (2 ^ d) (λ m. Bool·beq (majority d (stands m)) (leb least (ones m)))
-holds (Run n d run) = follows (newRoom (sizes n d 1)) run
+holds (Run n d run) = replays (newRoom (sizes n d 1)) run
 
 -- every case of a list passes its test
 unfoldable pub allHold : List Case → Bool

@@ -16,9 +16,6 @@ use Rattle.layout.specs.Cells.{sizesOf, serverOf, blockOf}
 use Rattle.room.specs.Open.{opened}
 use Rattle.room.specs.Step.{answered, stepped}
 
-abbrev pub sizes : ℕ → ℕ → ℕ → Sizes
-sizes servers drives slots = record { servers = servers; drives = drives; slots = slots }
-
 abbrev pub block : ℕ → ℕ → ℕ → Block
 block mbal bal inp = record { mbal = mbal; bal = bal; inp = inp }
 
@@ -41,18 +38,18 @@ unfoldable pub onDrive : List ℕ → ℕ → ℕ → Block
 onDrive cells d p = blockOf (sizesOf cells) cells 0 d p
 
 -- what a run says, from these cells on
-unfoldable pub Follows : List ℕ → List Line → Type 0
-Follows cells [] = Unit {0}
-Follows cells (step ↝ answer ∷ run) = (answered cells step ≡ answer) × Follows (stepped cells step) run
-Follows cells (Own p b ∷ run) = (own cells p ≡ b) × Follows cells run
-Follows cells (OnDrive d p b ∷ run) = (onDrive cells d p ≡ b) × Follows cells run
+unfoldable pub Replays : List ℕ → List Line → Type 0
+Replays cells [] = Unit {0}
+Replays cells (step ↝ answer ∷ run) = (answered cells step ≡ answer) × Replays (stepped cells step) run
+Replays cells (Own p b ∷ run) = (own cells p ≡ b) × Replays cells run
+Replays cells (OnDrive d p b ∷ run) = (onDrive cells d p ≡ b) × Replays cells run
 
 -- the cells after a run
-unfoldable pub after : List ℕ → List Line → List ℕ
-after cells [] = cells
-after cells (step ↝ answer ∷ run) = after (stepped cells step) run
-after cells (Own p b ∷ run) = after cells run
-after cells (OnDrive d p b ∷ run) = after cells run
+unfoldable pub lastCells : List ℕ → List Line → List ℕ
+lastCells cells [] = cells
+lastCells cells (step ↝ answer ∷ run) = lastCells (stepped cells step) run
+lastCells cells (Own p b ∷ run) = lastCells cells run
+lastCells cells (OnDrive d p b ∷ run) = lastCells cells run
 
 -- one word and one number
 unfoldable pub sameAnswer : Answer → Answer → Bool
@@ -62,8 +59,8 @@ unfoldable pub sameBlock : Block → Block → Bool
 sameBlock a b = eqb (a .mbal) (b .mbal) && eqb (a .bal) (b .bal) && eqb (a .inp) (b .inp)
 
 -- what a run says, as a test
-unfoldable pub follows : List ℕ → List Line → Bool
-follows cells [] = true
-follows cells (step ↝ answer ∷ run) = sameAnswer (answered cells step) answer && follows (stepped cells step) run
-follows cells (Own p b ∷ run) = sameBlock (own cells p) b && follows cells run
-follows cells (OnDrive d p b ∷ run) = sameBlock (onDrive cells d p) b && follows cells run
+unfoldable pub replays : List ℕ → List Line → Bool
+replays cells [] = true
+replays cells (step ↝ answer ∷ run) = sameAnswer (answered cells step) answer && replays (stepped cells step) run
+replays cells (Own p b ∷ run) = sameBlock (own cells p) b && replays cells run
+replays cells (OnDrive d p b ∷ run) = sameBlock (onDrive cells d p) b && replays cells run

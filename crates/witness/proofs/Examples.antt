@@ -19,16 +19,16 @@ use Rattle.catalogue.specs.Call.{entriesOf, catalogueChecks, catalogueOf, catal
 use Rattle.catalogue.specs.Entry.{applies, entry}
 use Rattle.catalogue.specs.Fold.{cellsAfter, skippedBy, folded}
 use Rattle.catalogue.specs.Outputs.{outputAt, leading, outputsOf}
-use Rattle.starred.specs.Runs.{newRoom, sameAnswer, follows}
+use Rattle.starred.specs.Runs.{newRoom, sameAnswer, replays}
 use Rattle.history.specs.Run.{ran, moveOf, outputBy, firstOutput}
 use Rattle.register.specs.OneHistory.{commandsOf}
-use Rattle.witness.specs.Example.{stepsOf, said, Holds}
+use Rattle.witness.specs.Example.{stepsOf, said, Worked}
 use Rattle.witness.specs.Runs.{survivor, rivals, gap}
 use Rattle.witness.proofs.Reading.{eventsOf, Computed, holds}
 
 -- the line names all that the definitions of open, step and catalogue are made of
 computed : Computed survivor × Computed rivals × Computed gap
-unfolding survivor rivals gap newRoom sameAnswer follows stepsOf ran onesIn ones
+unfolding survivor rivals gap newRoom sameAnswer replays stepsOf ran onesIn ones
     limitOf hoardFits isCommand owned leastAbove nextOwn stands marked allBelow size gathered majority within
     placesFit commandFits
     meeting marking topping recalling rejoining bidding writing reading proposing committing
@@ -72,13 +72,13 @@ computed = (
 )
 
 -- one server commits and fails, and the other, with another offer, commits the same command
-pub survivor-holds : Holds survivor
+pub survivor-holds : Worked survivor
 survivor-holds = holds survivor (computed .0)
 
 -- two servers answer different chosen commands, and both commit the same
-pub rivals-hold : Holds rivals
+pub rivals-hold : Worked rivals
 rivals-hold = holds rivals (computed .1)
 
 -- a commit beyond an empty slot is in no list and in no catalogue
-pub gap-holds : Holds gap
+pub gap-holds : Worked gap
 gap-holds = holds gap (computed .2)

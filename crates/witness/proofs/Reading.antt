@@ -11,12 +11,12 @@ use Rattle.room.specs.Open.{openRefusal, opening}
 use Rattle.room.specs.Step.{stepped}
 use Rattle.catalogue.specs.Fold.{folded, start}
 use Rattle.catalogue.specs.Listing.{takenOf}
-use Rattle.starred.specs.Runs.{newRoom, Line, _↝_, Own, OnDrive, Follows, follows}
+use Rattle.starred.specs.Runs.{newRoom, Line, _↝_, Own, OnDrive, Replays, replays}
 use Rattle.starred.proofs.RunLaws.{run-says}
 use Rattle.history.specs.Run.{Event, ran, history, Always}
 use Rattle.register.specs.OneHistory.{commandsOf, OneHistory}
 use Rattle.register.proofs.Theorem.{one-history}
-use Rattle.witness.specs.Example.{Example, stepsOf, historyOf, said, chosenCode, committedCode, lent, Lists, IsFirst, Holds}
+use Rattle.witness.specs.Example.{Example, stepsOf, historyOf, said, chosenCode, committedCode, lent, Lists, IsFirst, Worked}
 
 -- the steps with the answers that are written beside them
 unfoldable pub eventsOf : List Line → List Event
@@ -26,8 +26,8 @@ eventsOf (Own p b ∷ run) = eventsOf run
 eventsOf (OnDrive d p b ∷ run) = eventsOf run
 
 -- where the answers are those written, they are the history
-as-written : (cells : List ℕ) (run : List Line) → Follows cells run → history cells (stepsOf run) ≡ eventsOf run
-unfolding Follows stepsOf eventsOf history
+as-written : (cells : List ℕ) (run : List Line) → Replays cells run → history cells (stepsOf run) ≡ eventsOf run
+unfolding Replays stepsOf eventsOf history
 as-written cells [] h = refl
 as-written cells (step ↝ answer ∷ run) h =
     λ i. record { step = step; answer = h .0 i } ∷ as-written (stepped cells step) run (h .1) i
@@ -44,7 +44,7 @@ at-last P cells (st ∷ sts) a = at-last P (stepped cells st) sts (a .1)
 pub record Computed (e : Example) : Type 0 where
   pub servers : e .sizes .servers ≡ 2
   pub opens : openRefusal (opening (e .sizes) (replicate (roomLength (e .sizes)) 9)) ≡ 0
-  pub answers : follows (newRoom (e .sizes)) (e .run) ≡ true
+  pub answers : replays (newRoom (e .sizes)) (e .run) ≡ true
   pub chosen : said chosenCode (eventsOf (e .run)) ≡ e .chosen
   pub committed : said committedCode (eventsOf (e .run)) ≡ e .committed
   pub commands : commandsOf (e .sizes) (eventsOf (e .run)) ≡ e .commands
@@ -52,7 +52,7 @@ pub record Computed (e : Example) : Type 0 where
   pub server1 : Lists e 1
 
 module _ (e : Example) (c : Computed e) where
-  answers : Follows (newRoom (e .sizes)) (e .run)
+  answers : Replays (newRoom (e .sizes)) (e .run)
   answers = run-says (newRoom (e .sizes)) (e .run) (c .answers)
 
   told : historyOf e ≡ eventsOf (e .run)
@@ -78,7 +78,7 @@ module _ (e : Example) (c : Computed e) where
   lists (suc zero) h = c .server1
   lists (suc (suc p)) h = absurd (omega arith)
 
-  pub holds : Holds e
+  pub holds : Worked e
   holds =
       record {
         answers = answers;

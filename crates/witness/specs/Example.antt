@@ -11,7 +11,7 @@ use Rattle.state.specs.Answers.{codeOf, numberOf}
 use Rattle.catalogue.specs.Call.{catalogueOf, catalogueCells}
 use Rattle.catalogue.specs.Fold.{pieces, folded, start}
 use Rattle.catalogue.specs.declared.Listing.the-variants.{Counted}
-use Rattle.starred.specs.Runs.{newRoom, Line, _↝_, Own, OnDrive, Follows}
+use Rattle.starred.specs.Runs.{newRoom, Line, _↝_, Own, OnDrive, Replays}
 use Rattle.history.specs.Run.{Event, ran, history}
 use Rattle.register.specs.OneHistory.{commandsOf, OneHistory}
 
@@ -66,8 +66,8 @@ pub record Lists (e : Example) (p : ℕ) : Type 0 where
 abbrev pub IsFirst : Example → ℕ → Type 0
 IsFirst e p = getD (e .left) p [] ≡ folded start (take (getD (e .taken) p 0) (e .commands)) .cells
 
-pub record Holds (e : Example) : Type 0 where
-  pub answers : Follows (newRoom (e .sizes)) (e .run)
+pub record Worked (e : Example) : Type 0 where
+  pub answers : Replays (newRoom (e .sizes)) (e .run)
   -- demand 3 for these very steps
   pub one : OneHistory (e .sizes) (newRoom (e .sizes)) (stepsOf (e .run))
   pub chosen : said chosenCode (historyOf e) ≡ e .chosen

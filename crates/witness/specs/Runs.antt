@@ -5,7 +5,8 @@ use lib.ListN.{set, replicate}
 use Rattle.state.specs.declared.Answer.the-variants.{Done, Outbid, Chosen, Committed}
 use Rattle.state.specs.declared.Step.the-variants.{Offer, Recall, Rejoin, Write, Read, Finish, Fail}
 use Rattle.catalogue.specs.Fold.{pieces}
-use Rattle.starred.specs.Runs.{sizes, Line, _↝_}
+use Rattle.state.specs.Sizes.{sizes}
+use Rattle.starred.specs.Runs.{Line, _↝_}
 use Rattle.witness.specs.Example.{Example}
 
 -- enter piece 5 in hoard 9; enter piece 7 in hoard 3; move piece 5 to hoard 12

@@ -5,7 +5,7 @@ use Rattle.catalogue.proofs.catalogue.Tie as tie
 use native.Mathlib.Omega.{arith}
 use Prim.Native.Nat.{ℕ, _≤_, _<_}
 use mathlib.Core.Path.{_≡_, _∙_, sym, ap, subst}
-use mathlib.Core.Bool.{Bool, true}
+use mathlib.Core.Bool.{true}
 use mathlib.Core.List.{List}
 use lib.ListN.{length, replicate}
 use borrow.Author.Tests.{not-true, not-false}
