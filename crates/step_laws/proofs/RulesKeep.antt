@@ -17,7 +17,7 @@ use Rattle.state.specs.Server.{withOwn, withNotes, cleared, failed, ownBlock}
 use Rattle.synod.specs.declared.Ruling.{Ruling}
 use Rattle.synod.specs.declared.Ruling.the-variants.{Refused, Accepted}
 use Rattle.synod.specs.Changes.{readBit, meeting, marking, topping, recalling, rejoining, bidding, writing, reading, proposing, committing}
-use Rattle.synod.specs.Rules.{ruling, commandOf, offerRule, recallRule, rejoinRule, bidRule, writeRule, readRule, finishRule}
+use Rattle.synod.specs.Rules.{ruling, offerRule, recallRule, rejoinRule, bidRule, writeRule, readRule, finishRule}
 use Rattle.synod.proofs.Rulings.{recall-cases, rejoin-cases, bid-cases, write-cases, read-cases, finish-cases}
 use Rattle.layout.specs.Places.{Fit}
 use Rattle.range.specs.Range.{masksOf, valueFits}
