@@ -107,7 +107,7 @@ next-is n p f b e =
     let w : _≡_ {A = ℕ} 0 1 = cc in
     absurd (omega arith))
 
--- 01: the next ballot is p's
+-- the next ballot is p's
 pub next-owned : (n p f b : ℕ) → nextOwn n p f ≡ Ballot b → owned n p b ≡ true
 next-owned n p f b e =
     let i = next-is n p f b e in

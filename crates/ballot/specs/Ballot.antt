@@ -1,4 +1,4 @@
--- Ballots and their owners (01, "The room in memory": "Ballot b, 1 to 1,000,000, belongs to server (b - 1) mod N").
+-- Ballots and their owners (SPEC, "The room in memory").
 use Prim.Native.Nat.{ℕ, _+_, _-_, _%_}
 use mathlib.Core.Bool.{Bool, _&&_, cond}
 use lib.Dec.{eqb, leb, ltb}

@@ -1,14 +1,14 @@
--- One command and the cell of its piece (01, "The catalogue"). A cell is the piece's hoard, 0 if it has none.
+-- One command and the cell of its piece (SPEC, "The catalogue"). A cell is the piece's hoard, 0 if it has none.
 use Prim.Native.Nat.{ℕ}
 use mathlib.Core.Bool.{Bool, not, _&&_, _||_, cond}
 use lib.Dec.{eqb}
 use Rattle.command.specs.Command.{enter, move, strike}
 
--- "Enter sets a cell that is 0; move sets, and strike zeroes, a cell that isn't"
+-- a command of this kind does something to the cell
 unfoldable pub applies : ℕ → ℕ → Bool
 applies kind cell = (eqb kind enter && eqb cell 0) || ((eqb kind move || eqb kind strike) && not (eqb cell 0))
 
--- "otherwise the command is skipped"
+-- it does nothing
 abbrev pub skips : ℕ → ℕ → Bool
 skips kind cell = not (applies kind cell)
 

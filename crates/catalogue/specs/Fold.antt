@@ -1,4 +1,4 @@
--- A list of commands applied to the 64 cells, one after the other (01, "The catalogue").
+-- A list of commands applied to the 64 cells, one after the other (SPEC, "The catalogue").
 use mathlib.Core.Bool.{cond}
 use Prim.Native.Nat.{ℕ, _+_}
 use mathlib.Core.List.{List, [], _∷_}
@@ -6,7 +6,7 @@ use lib.ListN.{getD, set, replicate}
 use Rattle.command.specs.Command.{kindOf, pieceOf, hoardOf}
 use Rattle.catalogue.specs.Entry.{skips, entry}
 
--- "64 lent cells, one per piece"
+-- one cell for each piece
 abbrev pub pieces : ℕ
 pieces = 64
 
@@ -35,6 +35,6 @@ unfoldable pub folded : Entries → List ℕ → Entries
 folded e [] = e
 folded e (v ∷ vs) = folded (applied e v) vs
 
--- "starting from zeros"
+-- before the first command
 abbrev pub start : Entries
 start = record { cells = replicate pieces 0; skipped = 0 }

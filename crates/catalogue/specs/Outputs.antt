@@ -1,4 +1,4 @@
--- The commands that a catalogue takes (01, "The catalogue"): a server's outputs from slot 0 up to the first slot without
+-- The commands that a catalogue takes (SPEC, "The catalogue"): a server's outputs from slot 0 up to the first slot without
 -- one.
 use Prim.Native.Nat.{ℕ, zero, suc}
 use mathlib.Core.Bool.{cond}

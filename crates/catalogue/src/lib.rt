@@ -25,7 +25,7 @@ pub enum Listing {
 }
 
 impl Listing {
-    // 01's number of a refusal; 0 where the call was accepted.
+    // The number of a refusal; 0 where the call was accepted.
     pub fn refusal(self) -> u32
         ensures { λ r. ⌜ r ≡ catalogueRefusal self ⌝ }
     {

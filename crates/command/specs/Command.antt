@@ -1,4 +1,4 @@
--- Commands (01, "The commands").
+-- Commands (SPEC, "The commands").
 use Prim.Native.Nat.{ℕ, _/_, _%_}
 use mathlib.Core.Bool.{Bool, _&&_, _||_}
 use mathlib.Core.List.{List, [], _∷_}
@@ -31,7 +31,7 @@ cabinetLimits = 255 ∷ 255 ∷ 200 ∷ 200 ∷ 120 ∷ 120 ∷ 60 ∷ 60 ∷ []
 unfoldable pub limitOf : List ℕ → ℕ → ℕ
 limitOf limits piece = getD limits (piece / 8) 0
 
--- "Strike has hoard 0. Enter and move have hoard 1 up to the limit"
+-- the hoards that a command of this kind may have
 unfoldable pub hoardFits : List ℕ → ℕ → ℕ → ℕ → Bool
 hoardFits limits kind piece hoard =
     ((eqb kind enter || eqb kind move) && leb 1 hoard && leb hoard (limitOf limits piece))

@@ -24,7 +24,7 @@ pub fn hoard(v: u32) -> u32
     v % 256
 }
 
-// 01's limits, to lend to is_command.
+// The cabinets' limits, to lend to is_command.
 pub fn limits() -> [u32; 8]
     ensures { λ r. ⌜ r ≡ cabinetLimits ⌝ }
 {

@@ -1,4 +1,4 @@
--- Every kind of step, at a slot that it concerns, makes the move that 01 reads off the step and its answer.
+-- Every kind of step, at a slot that it concerns, makes the move that is read off the step and its answer.
 use Prim.Native.Nat.{ℕ}
 use mathlib.Core.Path.{_≡_, refl, _∙_, sym, ap}
 use mathlib.Core.Bool.{true, true≢false, cond}

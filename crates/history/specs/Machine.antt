@@ -1,4 +1,4 @@
--- The one-value machine of a slot (01, "The one-value machine"), and what it is to follow a run. A command is never 0,
+-- The one-value machine of a slot (SPEC, "The one-value machine"), and what it is to follow a run. A command is never 0,
 -- so 0 stands for none.
 use Prim.Native.Nat.{ℕ, _<_}
 use mathlib.Core.List.{List, [], _∷_, List·Memᴰ}
@@ -11,32 +11,32 @@ use Rattle.layout.specs.Cells.{serverOf}
 use Rattle.room.specs.Step.{answered, stepped}
 use Rattle.history.specs.Run.{Move, Offers, Chooses, Fails, Rests, moveOf}
 
--- "offer and output for each server, given (a set), chosen"
+-- each server's offer and output, the commands given, and the one chosen
 pub record Machine : Type 0 where
   pub offers : ℕ → ℕ
   pub outputs : ℕ → ℕ
   pub given : List ℕ
   pub chosen : ℕ
 
--- "at first all none or empty"
+-- before the first step
 abbrev pub atFirst : Machine
 atFirst = record { offers = λ p. 0; outputs = λ p. 0; given = []; chosen = 0 }
 
--- "Offer(p, v): offer of p is v, v joins given"
+-- the machine after Offer(p, v)
 abbrev pub afterOffer : Machine → ℕ → ℕ → Machine
 afterOffer m p v =
     record { offers = updated (m .offers) p v; outputs = m .outputs; given = v ∷ m .given; chosen = m .chosen }
 
--- "p's output is chosen"
+-- the machine after Choose(p), where v is chosen
 abbrev pub afterChoose : Machine → ℕ → ℕ → Machine
 afterChoose m p v = record { offers = m .offers; outputs = updated (m .outputs) p v; given = m .given; chosen = v }
 
--- "Fail(p): offer and output of p become none"
+-- the machine after Fail(p)
 abbrev pub afterFail : Machine → ℕ → Machine
 afterFail m p =
     record { offers = updated (m .offers) p 0; outputs = updated (m .outputs) p 0; given = m .given; chosen = m .chosen }
 
--- "Choose(p), output of p none: if chosen is none it becomes some member of given; p's output is chosen"
+-- Choose(p): p has no output; what was chosen stays, or some member of given is chosen
 pub record Choose (m : Machine) (p : ℕ) (n : Machine) : Type 0 where
   pub choice : ℕ
   pub no-output : m .outputs p ≡ 0

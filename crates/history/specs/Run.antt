@@ -1,4 +1,4 @@
--- A run is its history: the list of steps with their answers (01, "The one-value machine"). What 01 reads off a run is
+-- A run is its history: the list of steps with their answers (SPEC, "The one-value machine"). What is told of a run is
 -- read off this list, never off the cells; what it says of outputs is compared with them at the end.
 use Prim.Native.Nat.{ℕ}
 use mathlib.Core.Bool.{Bool, not, cond}
@@ -47,9 +47,7 @@ pub data Move : Type 0 where
   Fails : ℕ → Move
   Rests : Move
 
--- A Choose is read off the answer, not off the kind: today only Finish commits. 01:
--- "Accepted Offer and Fail steps make that move (Offer in the slot named, Fail in every slot), a committed Finish makes
--- Choose(p) in its slot; any other step, and any refusal, none"
+-- The move that a step with this answer makes. A Choose is read off the answer, not off the kind: only Finish commits.
 abbrev pub deedMove : ℕ → Deed → Answer → Move
 deedMove p (Brings c) a = cond (accepted a) (Offers p c) Rests
 deedMove p (Stores d) a = cond (committed a) (Chooses p) Rests
@@ -77,7 +75,7 @@ outputBy t e = outputIn (moveOf t (e .step) (e .answer)) (e .answer)
 abbrev pub orElse : ℕ → ℕ → ℕ
 orElse a b = cond (eqb a 0) b a
 
--- "the command of the first committed answer there"; 0 where there is none
+-- the command of the first committed answer in the slot; 0 where there is none
 unfoldable pub firstOutput : ℕ → List Event → ℕ
 firstOutput t [] = 0
 firstOutput t (e ∷ h) = orElse (outputBy t e) (firstOutput t h)

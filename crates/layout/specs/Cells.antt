@@ -1,4 +1,4 @@
--- A record and a block as cells, read from a row and stored in it (01, "The room in memory").
+-- A record and a block as cells, read from a row and stored in it (SPEC, "The room in memory").
 use Prim.Native.Nat.{ℕ, _+_}
 use mathlib.Core.List.{List, [], _∷_}
 use lib.ListN.{getD, set}

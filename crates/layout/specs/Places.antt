@@ -1,4 +1,4 @@
--- The places of a room (01, "The room in memory"). The literals of the layout stand here and in Cells alone.
+-- The places of a room (SPEC, "The room in memory"). The literals of the layout stand here and in Cells alone.
 use Prim.Native.Nat.{ℕ, _+_, _*_, _≤_}
 use mathlib.Core.Bool.{Bool, _&&_}
 use mathlib.Core.List.{List}
@@ -30,7 +30,7 @@ longestRoom = base + 16 * longestSlot
 unfoldable pub slotLength : Sizes → ℕ
 slotLength z = serverLength * z .servers + blockLength * (z .drives * z .servers)
 
--- "length 4 + S × (10 × N + 3 × D × N)"
+-- the cells of a room
 unfoldable pub roomLength : Sizes → ℕ
 roomLength z = base + z .slots * slotLength z
 
@@ -50,7 +50,7 @@ nthBlockAt z s k = slotAt z s + serverLength * z .servers + blockLength * k
 unfoldable pub blockAt : Sizes → ℕ → ℕ → ℕ → ℕ
 blockAt z s d p = nthBlockAt z s (d * z .servers + p)
 
--- "N 1 to 4, D 1 to 7, S 1 to 16"
+-- the sizes that a room may have
 unfoldable pub sizesFit : Sizes → Bool
 sizesFit z =
     leb 1 (z .servers) && leb (z .servers) 4

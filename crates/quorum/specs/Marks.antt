@@ -1,4 +1,4 @@
--- A mark cell is a 32-bit number read bit by bit (01, "The room in memory").
+-- A mark cell is a 32-bit number read bit by bit (SPEC, "The room in memory").
 use Prim.Native.Nat.{ℕ, _+_, _-_, _/_, _%_, _^_}
 use mathlib.Core.Bool.{Bool, not, _&&_, cond}
 use lib.Dec.{eqb, ltb}

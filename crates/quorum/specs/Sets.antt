@@ -1,4 +1,4 @@
--- Sets of drives, their size, and majority (01, "The room in memory").
+-- Sets of drives, their size, and majority (SPEC, "The room in memory").
 use Prim.Native.Nat.{ℕ, zero, suc, _+_, _*_, _^_}
 use mathlib.Core.Bool.{Bool, true, not, _&&_, _||_, cond}
 use lib.Dec.{ltb}
@@ -19,7 +19,7 @@ unfoldable pub gathered : ℕ → (ℕ → Bool) → ℕ
 gathered zero set = 0
 gathered (suc n) set = gathered n set + cond (set n) (2 ^ n) 0
 
--- "A majority is a set of drives with twice its number above D"
+-- more than half of the drives
 unfoldable pub majority : ℕ → (ℕ → Bool) → Bool
 majority drives set = ltb drives (2 * size drives set)
 

@@ -1,4 +1,4 @@
--- Cells in range (01, "The room in memory"): refusal 3 says that they are not.
+-- Cells in range (SPEC, "The room in memory"): refusal 3 says that they are not.
 use Prim.Native.Nat.{ℕ, _*_, _/_, _%_}
 use mathlib.Core.Bool.{Bool, _&&_, _||_}
 use mathlib.Core.List.{List}
@@ -14,7 +14,7 @@ use Rattle.layout.specs.Places.{base, sizesFit, roomLength, nthBlockAt}
 use Rattle.layout.specs.Cells.{sizesOf, offOf, limitsOf, serverOf, blockIn}
 use Rattle.range.specs.declared.Masks.{Masks}
 
--- "marks stand only for existing drives and servers": the legal marks of drives, and of blocks read (bit 4d + q)
+-- the marks that may stand: of drives, and of blocks read (bit 4d + q)
 unfoldable pub legalDrives : Sizes → ℕ
 legalDrives z = gathered 32 (λ i. ltb i (z .drives))
 
@@ -24,7 +24,7 @@ legalReads z = gathered 32 (λ i. ltb (i / 4) (z .drives) && ltb (i % 4) (z .ser
 abbrev pub masksOf : Sizes → Masks
 masksOf z = record { drives = legalDrives z; reads = legalReads z }
 
--- "each inp, offer, seeninp is 0 or a command"
+-- what a cell that holds a command may hold
 unfoldable pub valueFits : List ℕ → ℕ → Bool
 valueFits limits v = eqb v 0 || isCommand limits v
 

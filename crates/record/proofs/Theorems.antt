@@ -1,4 +1,4 @@
--- What is written reads back, what is read is written again, and no two steps share a record (01, "Step records").
+-- What is written reads back, what is read is written again, and no two steps share a record (SPEC, "Step records").
 use Prim.Native.Nat.{ℕ, suc, _+_, _<_, _≤_}
 use mathlib.Core.Bool.{Bool, false, not, _||_}
 use mathlib.Core.List.{List, [], _∷_, _++_, append-nil}

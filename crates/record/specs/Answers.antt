@@ -1,4 +1,4 @@
--- 01's number and values for what reading and writing answer ("Who can bring which number", "Step records").
+-- The number and the values of what reading and writing answer (SPEC, "Who can bring which number", "Step records").
 use Prim.Native.Nat.{ℕ}
 use mathlib.Core.Path.{_≡_}
 use Rattle.state.specs.declared.Step.{Step}
@@ -12,7 +12,7 @@ abbrev pub readRefusal : Reading → ℕ
 readRefusal (reading.Decoded step used) = 0
 readRefusal (reading.Refused number) = number
 
--- "Read answers the step with the length used": this step, with this length
+-- reading answers this step, with this length used
 abbrev pub Reads : Reading → Step → ℕ → Type 0
 Reads (reading.Decoded step used) st length = (step ≡ st) × (used ≡ length)
 Reads (reading.Refused number) st length = ⊥
@@ -22,7 +22,7 @@ abbrev pub writeRefusal : Writing → ℕ
 writeRefusal (writing.Encoded used) = 0
 writeRefusal (writing.Refused number) = number
 
--- "Write answers the length used"; a refusal carries only its number
+-- writing: the length used; a refusal carries only its number
 abbrev pub writeLength : Writing → ℕ
 writeLength (writing.Encoded used) = used
 writeLength (writing.Refused number) = 0

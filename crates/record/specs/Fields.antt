@@ -1,4 +1,4 @@
--- A step's kind and fields as numbers, and which kind has which field (01, "The ten steps", "Step records").
+-- A step's kind and fields as numbers, and which kind has which field (SPEC, "The ten steps", "Step records").
 use Prim.Native.Nat.{ℕ, _+_, _<_, _^_}
 use mathlib.Core.Bool.{cond}
 use mathlib.Core.List.{List, [], _∷_}
@@ -82,7 +82,7 @@ valuesOf f = f .server ∷ f .slot ∷ f .drive ∷ f .other ∷ f .number ∷ [
 abbrev pub withValues : ℕ → List ℕ → Fields
 withValues kind vs = fields kind (getD vs 0 0) (getD vs 1 0) (getD vs 2 0) (getD vs 3 0) (getD vs 4 0)
 
--- "server, slot, drive and other are bytes and the number has 32 bits"
+-- the widths of a step's numbers
 pub record StepFits (step : Step) : Type 0 where
   pub server : fieldsOf step .server < 256
   pub slot : fieldsOf step .slot < 256

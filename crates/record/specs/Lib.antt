@@ -1,4 +1,4 @@
--- Step records (01, "Step records").
+-- Step records (SPEC, "Step records").
 -- the fields of a step, and the table of which kind has which
 pub mod Fields
 -- the map byte
@@ -7,5 +7,5 @@ pub mod Map
 pub mod Write
 -- what is read from bytes
 pub mod Read
--- 01's numbers for the answers
+-- the numbers of the answers
 pub mod Answers

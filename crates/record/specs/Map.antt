@@ -1,4 +1,4 @@
--- The map byte, and what it says of the fields that follow (01, "Step records"). Each definition goes through the
+-- The map byte, and what it says of the fields that follow (SPEC, "Step records"). Each definition goes through the
 -- fields in the order of their bits: the low bit of a map is the first field's, its half is the map of the others.
 use Prim.Native.Nat.{ℕ, _+_, _*_, _/_, _%_}
 use mathlib.Core.Bool.{Bool, false, _&&_, _||_, cond}
@@ -6,11 +6,11 @@ use mathlib.Core.List.{List, [], _∷_}
 use lib.Dec.{eqb, ltb}
 use Rattle.record.specs.Fields.{maskOf}
 
--- how many bytes each field takes: "a byte each", "number (.. four bytes ..)"
+-- how many bytes each field takes
 abbrev pub widths : List ℕ
 widths = 1 ∷ 1 ∷ 1 ∷ 1 ∷ 4 ∷ []
 
--- "A bit stands exactly when the kind has the field and it isn't 0": has is 1 where the kind has the field, else 0
+-- the bit of a field v: has is 1 where the kind has the field, else 0
 abbrev pub bitOf : ℕ → ℕ → ℕ
 bitOf has v = cond (eqb v 0) 0 has
 
@@ -28,20 +28,20 @@ fieldsLength (w ∷ ws) map = map % 2 * w + fieldsLength ws (map / 2)
 unfoldable pub recordLength : ℕ → ℕ
 recordLength map = 2 + fieldsLength widths map
 
--- "a field it lacks": a bit of the map stands that the mask does not have
+-- a bit of the map stands whose field the kind lacks
 unfoldable pub asksMore : List ℕ → ℕ → ℕ → Bool
 asksMore [] map mask = false
 asksMore (w ∷ ws) map mask = ltb (mask % 2) (map % 2) || asksMore ws (map / 2) (mask / 2)
 
--- "a kind byte (1 to 10)"
+-- the kind is none of the ten
 abbrev pub unknown : ℕ → Bool
 unknown kind = eqb kind 0 || ltb 10 kind
 
--- "unknown kind or a field it lacks"
+-- no record of this kind has this map
 unfoldable pub malformed : ℕ → ℕ → Bool
 malformed map kind = unknown kind || asksMore widths map (maskOf kind)
 
--- "a field of 0": a bit of the map stands whose field is 0
+-- a bit of the map stands whose field is 0
 unfoldable pub zeroAmong : ℕ → List ℕ → Bool
 zeroAmong map [] = false
 zeroAmong map (v ∷ vs) = (eqb (map % 2) 1 && eqb v 0) || zeroAmong (map / 2) vs

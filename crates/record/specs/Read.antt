@@ -1,4 +1,4 @@
--- What is read from bytes (01, "Step records").
+-- What is read from bytes (SPEC, "Step records").
 use Prim.Native.Nat.{ℕ, _+_, _*_, _/_, _%_, _<_}
 use mathlib.Core.Bool.{not}
 use mathlib.Core.List.{List, [], _∷_}
@@ -14,7 +14,7 @@ use Rattle.record.specs.declared.Reading.{Reading}
 abbrev pub Bytes : List ℕ → Type 0
 Bytes bytes = (i : ℕ) → getD bytes i 0 < 256
 
--- the number that bytes stand for, "low first"
+-- the number that bytes stand for, the low one first
 unfoldable pub lowNumber : List ℕ → ℕ
 lowNumber [] = 0
 lowNumber (b ∷ bs) = b + 256 * lowNumber bs
@@ -25,8 +25,7 @@ valuesAt [] map bytes at = []
 valuesAt (w ∷ ws) map bytes at =
     lowNumber (take (map % 2 * w) (drop at bytes)) ∷ valuesAt ws (map / 2) bytes (at + map % 2 * w)
 
--- "Its checks: no byte, 14; bits 5 to 7, 15; no kind, 14; unknown kind or a field it lacks, 15; fields short, 14;
--- a field of 0, 15." "Read answers the step with the length used; bytes beyond are ignored."
+-- the checks of reading, in their order, and the step with the length used; what stands beyond is not looked at
 unfoldable pub readChecks : List ℕ → Checked Reading
 readChecks bytes =
     let map = getD bytes 0 0 in

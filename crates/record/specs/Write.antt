@@ -1,4 +1,4 @@
--- What is written for a step (01, "Step records").
+-- What is written for a step (SPEC, "Step records").
 use Prim.Native.Nat.{ℕ, _*_, _/_, _%_, zero, suc}
 use mathlib.Core.List.{List, [], _∷_, _++_}
 use lib.Dec.{leb}
@@ -11,18 +11,18 @@ use Rattle.record.specs.declared.Writing.the-variants.{Encoded, Refused}
 use Rattle.record.specs.declared.Writing.{Writing}
 use Rattle.record.specs.declared.fields.Fields.{Fields}
 
--- a number in so many bytes, "low first"
+-- a number in so many bytes, the low one first
 unfoldable pub lowFirst : ℕ → ℕ → List ℕ
 lowFirst zero v = []
 lowFirst (suc w) v = v % 256 ∷ lowFirst w (v / 256)
 
--- "then only the fields whose bit stands"
+-- the bytes of the fields whose bit stands
 unfoldable pub fieldBytes : List ℕ → ℕ → List ℕ → List ℕ
 fieldBytes [] map vs = []
 fieldBytes (w ∷ ws) map [] = []
 fieldBytes (w ∷ ws) map (v ∷ vs) = lowFirst (map % 2 * w) v ++ fieldBytes ws (map / 2) vs
 
--- "A record is a map byte, a kind byte (1 to 10), then only the fields whose bit stands"
+-- a record with this map, kind and fields
 unfoldable pub bytesOf : ℕ → ℕ → List ℕ → List ℕ
 bytesOf map kind vs = map ∷ kind ∷ fieldBytes widths map vs
 
@@ -33,7 +33,7 @@ recordOfFields f = bytesOf (mapOf (maskOf (f .kind)) (valuesOf f)) (f .kind) (va
 unfoldable pub recordOf : Step → List ℕ
 recordOf step = recordOfFields (fieldsOf step)
 
--- "2 buffer length wrong (record write: too short)"; "Write answers the length used"
+-- the one check of writing, and the length used
 unfoldable pub writeChecks : Step → List ℕ → Checked Writing
 writeChecks step buffer =
     Must (leb (length (recordOf step)) (length buffer)) 2 (Gives (Encoded (length (recordOf step))))
@@ -41,7 +41,7 @@ writeChecks step buffer =
 unfoldable pub writingOf : Step → List ℕ → Writing
 writingOf step buffer = outcome Refused (writeChecks step buffer)
 
--- the bytes of a buffer after this answer: the record is stored, "and leaves later bytes alone"; a refusal changes none
+-- the bytes of a buffer after this answer: the record, and the later bytes as they were; a refusal changes none
 abbrev pub writtenBy : Writing → List ℕ → List ℕ → List ℕ
 writtenBy (Encoded used) bytes buffer = bytes ++ drop used buffer
 writtenBy (Refused number) bytes buffer = buffer

@@ -1,4 +1,4 @@
-// Step records: a step read from bytes, and written as bytes (01, "Step records").
+// Step records: a step read from bytes, and written as bytes (SPEC, "Step records").
 mod decode;
 mod encode;
 mod fields;

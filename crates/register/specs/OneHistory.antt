@@ -1,4 +1,4 @@
--- Demand 3 (01, "The one-value machine", "The catalogue"), as one claim about a whole list of steps.
+-- One history (SPEC, "The one-value machine", "The catalogue"): demand 3 of 01, as one claim about a whole list of steps.
 use Prim.Native.Nat.{ℕ, _<_, _≤_}
 use mathlib.Core.List.{List, []}
 use mathlib.Core.Path.{_≡_}
@@ -12,8 +12,7 @@ use Rattle.catalogue.specs.Outputs.{leading, outputsOf}
 use Rattle.catalogue.specs.Call.{catalogueOf, catalogueCells}
 use Rattle.catalogue.specs.Listing.{catalogueRefusal, takenOf, skippedOf}
 
--- "The run's list of commands is read from the answers of the whole run. It holds for each slot, from slot 0 on until a
--- slot has none, the command of the first committed answer there."
+-- the run's list of commands: slot by slot the command of the first committed answer, up to a slot without one
 unfoldable pub commandsOf : Sizes → List Event → List ℕ
 commandsOf z events = leading (λ t. firstOutput t events) 0 (z .slots)
 
@@ -42,5 +41,5 @@ pub record OneHistory (z : Sizes) (cells : List ℕ) (steps : List Step) : Type 
   pub outputs : (t : ℕ) → t < z .slots → CommitsOutput z t cells steps
   -- and with each other: every committed answer in a slot is with its one command
   pub agreed : (t : ℕ) → t < z .slots → AllCommit t (firstOutput t (history cells steps)) (history cells steps)
-  -- "A command was offered for a slot by an accepted Offer of it there": at an earlier step than any output of it
+  -- every command was offered in its slot, at an earlier step than any output of it
   pub offered : (t : ℕ) → t < z .slots → OfferedEarlier t [] (history cells steps)

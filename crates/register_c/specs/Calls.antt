@@ -31,7 +31,7 @@ abbrev pub recordStepped : List ℕ → Reading → List ℕ
 recordStepped room (reading.Decoded step used) = stepped room step
 recordStepped room (reading.Refused n) = room
 
--- "a kind byte (1 to 10)"
+-- the kind is one of the ten
 abbrev pub kindKnown : ℕ → Bool
 kindKnown kind = leb 1 kind && leb kind 10
 

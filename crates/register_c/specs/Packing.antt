@@ -12,7 +12,7 @@ use Rattle.catalogue.specs.declared.Listing.the-variants as listing
 abbrev pub packed : ℕ → ℕ → ℕ
 packed word number = word * 4294967296 + number
 
--- 01's words: 0 done (and any other call that is accepted), 1 outbid, 2 chosen, 3 committed, 4 refused
+-- the words: 0 done (and any other call that is accepted), 1 outbid, 2 chosen, 3 committed, 4 refused
 abbrev pub packedAnswer : Answer → ℕ
 packedAnswer a = packed (codeOf a) (numberOf a)
 

@@ -23,7 +23,7 @@ pub record Readable (input : List ℕ) : Type 0 where
   pub sized : 3 ≤ length input
   pub short : length input ≤ inputMax
 
--- "a room of 1,988 cells at most"
+-- the cells of the largest room
 abbrev pub cellsMax : ℕ
 cellsMax = 1988
 

@@ -1,4 +1,4 @@
--- What the program rehearse prints (01, "Step records": "The program rehearse").
+-- What the program rehearse prints (SPEC, "Step records").
 use Prim.Native.Nat.{ℕ, zero, suc, _+_}
 use mathlib.Core.Bool.{cond}
 use mathlib.Core.List.{List, [], _∷_, _++_}
@@ -17,12 +17,12 @@ use Rattle.catalogue.specs.Call.{catalogueOf}
 use Rattle.transcript.specs.Lines.{stepLine, serverLine, openLine}
 use Rattle.rehearsal.specs.Script.{Ending, Between, Unread, Script, script}
 
--- "Each line is index, answer word, number"
+-- the lines of the steps, by their answers
 unfoldable pub stepLines : ℕ → List Event → List ℕ
 stepLines index [] = []
 stepLines index (e ∷ es) = stepLine index (e .answer) ++ stepLines (index + 1) es
 
--- "A record that can't be read prints its refusal and ends the records"; "input that ends between records adds no line"
+-- how the records end: a record that cannot be read has a line, the end of the input has none
 unfoldable pub endLine : ℕ → Ending → List ℕ
 endLine index Between = []
 endLine index (Unread n) = stepLine index (answer.Refused n)
@@ -31,30 +31,30 @@ endLine index (Unread n) = stepLine index (answer.Refused n)
 unfoldable pub recordLines : ℕ → List ℕ → Script → List ℕ
 recordLines index room s = stepLines index (history room (s .steps)) ++ endLine (index + length (s .steps)) (s .ending)
 
--- a server's line, "with its catalogue's two counts"
+-- a server's line, with the two counts of its catalogue
 unfoldable pub countsLine : ℕ → Listing → List ℕ
 countsLine p l = serverLine p (takenOf l) (skippedOf l)
 
 unfoldable pub lineOf : List ℕ → ℕ → List ℕ
 lineOf room p = countsLine p (catalogueOf room p (replicate pieces 0))
 
--- "then a line per server": the lines of the first n
+-- the lines of the first n servers
 unfoldable pub serverLines : List ℕ → ℕ → List ℕ
 serverLines room zero = []
 serverLines room (suc n) = serverLines room n ++ lineOf room n
 
--- what a room of these sizes prints for a script: the lines of the records, then those of the servers; "bad sizes "open
--- refused 1""
+-- what a room of these sizes prints for a script: the lines of the records, then those of the servers; sizes that do not
+-- fit print one line
 unfoldable pub runText : Sizes → Script → List ℕ
 runText z s =
     let room = openedCells z in
     cond (sizesFit z) (recordLines 0 room s ++ serverLines (ran room (s .steps)) (z .servers)) (openLine 1)
 
--- "at most 65,536 bytes in all"
+-- the most bytes of an input
 abbrev pub inputMax : ℕ
 inputMax = 65536
 
--- "Checked in this order, fewer than three bytes print only "open refused 14", too many "open refused 2", bad sizes .."
+-- what an input prints: too short, too long, or its run
 unfoldable pub rehearsal : List ℕ → List ℕ
 rehearsal input =
     cond (ltb (length input) 3) (openLine 14)

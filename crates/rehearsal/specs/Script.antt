@@ -1,4 +1,4 @@
--- The steps that the bytes after the sizes hold, and how they end (01, "Step records": "then records").
+-- The steps that the bytes after the sizes hold, and how they end (SPEC, "Step records").
 use Prim.Native.Nat.{ℕ, zero, suc}
 use mathlib.Core.List.{List, [], _∷_}
 use lib.ListN.{length, drop}

@@ -1,4 +1,4 @@
--- A step on a room: its answer, and every cell afterwards (01, "The ten steps"). A refusal changes no cell.
+-- A step on a room: its answer, and every cell afterwards (SPEC, "The ten steps"). A refusal changes no cell.
 use Prim.Native.Nat.{ℕ, zero, suc}
 use mathlib.Core.List.{List}
 use lib.ListN.{set}

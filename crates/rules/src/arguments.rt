@@ -1,4 +1,4 @@
-// Whether the numbers of a step fit the room: 01's refusals 4 and 5.
+// Whether the numbers of a step fit the room: refusals 4 and 5.
 ghost use mathlib.Core.Path.{_≡_};
 ghost use Rattle.synod.specs.Arguments.{inRoom, placesFit, commandFits};
 use command::is_command;

@@ -1,4 +1,4 @@
--- The starred values (01, "Edge values (* to be proved)") as one table.
+-- The values that are to be proved (SPEC, "Edge values") as one table.
 use Prim.Native.Nat.{ℕ}
 use mathlib.Core.List.{List, [], _∷_, _++_}
 use Rattle.command.specs.Command.{enter, strike}
@@ -7,7 +7,7 @@ use Rattle.state.specs.declared.Step.the-variants.{Offer, Recall, Rejoin, Bid, 
 use Rattle.starred.specs.Runs.{block, Line, _↝_, Own, OnDrive}
 use Rattle.starred.specs.Cases.{Case, Length, Unopened, Command, NoCommand, Owned, Majority, Run}
 
--- "N = 2: .. 1,000,001: 6": in a run where every other check passes. By its remainder it would be server 0's.
+-- 1,000,001 is no ballot, in a run where every other check passes. By its remainder it would be server 0's.
 abbrev pub pastTheLimit : List Line
 pastTheLimit =
     Recall 0 0 0 ↝ Done
@@ -36,7 +36,7 @@ met =
     ∷ Own 1 (block 2 0 0)
     ∷ []
 
--- "N = 4, server 1 at 2 finds 7: outbid, now 10"
+-- server 1 at 2 finds 7 and is outbid: now it is at 10
 abbrev pub outbid : List Line
 outbid = met ++ (Read 1 0 0 2 ↝ Outbid 7 ∷ Own 1 (block 10 0 0) ∷ [])
 
@@ -62,31 +62,31 @@ proposed =
 abbrev pub recalled : ℕ → ℕ → List Line
 recalled first second = Recall 0 0 first ↝ Done ∷ Recall 0 0 second ↝ Done ∷ Rejoin 0 0 3 ↝ Done ∷ []
 
--- "N = 2, server 0 recalls (1, 1, 66,825) and (1, 0, 0), Rejoin 3: (3, 1, 66,825)"
+-- Rejoin 3 then makes the own block (3, 1, 66,825)
 abbrev pub rejoined : ℕ → ℕ → List Line
 rejoined first second = proposed ++ recalled first second ++ (Own 0 (block 3 1 66825) ∷ [])
 
--- 01's list, in its order
+-- in the order of the list that was given
 unfoldable pub starred : List Case
 starred =
-    -- "1, 1, 1: 17 cells; 4, 7, 16: 1,988; N = 0: 1"
+    -- lengths of rooms; no room has no server
     Length 1 1 1 17
     ∷ Length 4 7 16 1988
     ∷ Unopened 0 1
-    -- "81,724 (enter 63, hoard 60) a command; 81,725: 5; 196,608 a command; 196,609: 5"
+    -- commands, and numbers that are none
     ∷ Command 81724 enter 63 60
     ∷ NoCommand 81725 5
     ∷ Command 196608 strike 0 0
     ∷ NoCommand 196609 5
-    -- "N = 2: ballot 1,000,000 is server 1's; 1,000,001: 6"
+    -- the last ballot, and one past it
     ∷ Owned 2 1000000 1
     ∷ Run 2 1 pastTheLimit
-    -- "Majority of 2 drives: 2; of 7: 4"
+    -- majorities
     ∷ Majority 2 2
     ∷ Majority 7 4
-    -- "N = 4, server 1 at 2 finds 7: outbid, now 10"
+    -- outbid among four servers
     ∷ Run 4 1 outbid
-    -- "N = 2, server 0 recalls .., whichever came first"
+    -- the same block whichever drive was recalled first
     ∷ Run 2 2 (rejoined 0 1)
     ∷ Run 2 2 (rejoined 1 0)
     ∷ []

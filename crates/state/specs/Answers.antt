@@ -1,4 +1,4 @@
--- 01's word and number for each answer ("Step answers").
+-- The word and the number of a step's answer (SPEC, "The ten steps").
 use Prim.Native.Nat.{ℕ}
 use Rattle.state.specs.declared.Answer.{Answer}
 use Rattle.state.specs.declared.Answer.the-variants.{Done, Outbid, Chosen, Committed, Refused}

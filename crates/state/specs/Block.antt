@@ -1,10 +1,10 @@
--- The block and the ballots that cells hold (01, "The room in memory").
+-- The block and the ballots that cells hold (SPEC, "The room in memory").
 use Prim.Native.Nat.{ℕ}
 use mathlib.Core.Bool.{Bool}
 use lib.Dec.{leb}
 use Rattle.state.specs.declared.Block.{Block}
 
--- "A blank block is all zero"
+-- nothing was written yet
 abbrev pub blank : Block
 blank = record { mbal = 0; bal = 0; inp = 0 }
 
@@ -12,6 +12,6 @@ blank = record { mbal = 0; bal = 0; inp = 0 }
 abbrev pub limit : ℕ
 limit = 1000000
 
--- "each mbal, bal, top, seenbal is at most 1,000,000"
+-- what a cell that holds a ballot may hold; 0 is none
 abbrev pub ballotFits : ℕ → Bool
 ballotFits b = leb b limit

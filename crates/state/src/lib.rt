@@ -37,7 +37,7 @@ impl Block {
     }
 }
 
-// A server's record in one slot. 01 names the fields; seenbal and seeninp are the best bal met in this phase and its
+// A server's record in one slot (SPEC, "The room in memory"). Seenbal and seeninp are the best bal met in this phase and its
 // inp, top is the largest mbal recalled in phase 0.
 pub struct Server {
     pub phase: u32,
@@ -64,7 +64,7 @@ impl Server {
         self
     }
 
-    // What 01 calls clear, done where a phase begins.
+    // The notes of a phase that begins.
     pub fn cleared(mut self) -> Server
         ensures { λ r. ⌜ r ≡ cleared self ⌝ }
     {
@@ -139,7 +139,7 @@ pub enum Answer {
 }
 
 impl Answer {
-    // 01's word for the answer: 0 done, 1 outbid, 2 chosen, 3 committed, 4 refused.
+    // The word of the answer: 0 done, 1 outbid, 2 chosen, 3 committed, 4 refused.
     pub fn code(self) -> u32
         ensures { λ r. ⌜ r ≡ codeOf self ⌝ }
     {

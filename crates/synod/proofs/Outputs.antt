@@ -1,4 +1,4 @@
--- What the steps do to every server's output and offer (01, "The one-value machine"): both are told by the step and its
+-- What the steps do to every server's output and offer (SPEC, "The one-value machine"): both are told by the step and its
 -- ruling alone. A committed answer comes from a server that had no output.
 use mathlib.Core.Bool.{cond}
 use Prim.Native.Nat.{ℕ, _≤_}
@@ -125,7 +125,7 @@ module _ (c : Config) (off : ℕ) (σ : Slot) (q : ℕ) where
   unfolding after offersAfter
   offers-told st = all-give Refused (TellsOffers σ st q) (λ n. refl) (ruleOf c off σ st) (offer-ends st)
 
--- 0 for done to 3 for committed, as 01 counts answers; 4 for a refusal
+-- 0 for done to 3 for committed; 4 for a refusal
 abbrev wordOf : Ruling → ℕ
 wordOf (Refused n) = 4
 wordOf (Accepted v a) = codeOf a

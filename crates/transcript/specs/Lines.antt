@@ -1,5 +1,4 @@
--- The lines that rehearse prints (01, "Step records": "Each line is index, answer word, number; then a line per server
--- with its catalogue's two counts"), and where they go in a buffer.
+-- The lines that rehearse prints (SPEC, "Step records"), and where they go in a buffer.
 use Prim.Native.Nat.{ℕ, _+_}
 use mathlib.Core.Path.{_≡_}
 use mathlib.Core.Bool.{Bool, cond}
@@ -11,7 +10,7 @@ use Rattle.state.specs.declared.Answer.the-variants.{Done, Outbid, Chosen, Comm
 use Rattle.state.specs.Answers.{numberOf}
 use Rattle.transcript.specs.Text.{bytes, digits}
 
--- the answer word ("Step answers: done 0; outbid ..; chosen ..; committed ..; refused with a number")
+-- the word of an answer
 abbrev pub wordOf : Answer → List ℕ
 wordOf Done = bytes "done"
 wordOf (Outbid ballot) = bytes "outbid"
