@@ -2,16 +2,18 @@
 use Prim.Native.Nat.{ℕ, _+_, _*_, _<_, _≤_}
 use mathlib.Core.Path.{_≡_, ap}
 use mathlib.Core.Bool.{true, _&&_}
+use mathlib.Core.List.{List}
 use mathlib.Core.Logic.{_⊎_, inl, inr}
 use native.Mathlib.Omega.{arith}
 use native.Mathlib.Decide.{decLt}
 use native.Mathlib.Nat.{mul-le-mul-right, mul-le-mul}
 use lib.Arith.{digits-lt}
 use lib.Dec.{leb}
+use lib.ListN.{length}
 use borrow.Author.Tests.{leb-true, le-leb}
 use Rattle.lemmas.proofs.Tests.{and-left, and-right}
 use Rattle.state.specs.declared.Sizes.{Sizes}
-use Rattle.layout.specs.Places.{base, serverLength, blockLength, longestSlot, longestRoom, slotLength, roomLength, slotAt, serverAt, nthBlockAt, blockAt, sizesFit, Fit}
+use Rattle.layout.specs.Places.{base, serverLength, blockLength, longestSlot, longestRoom, slotLength, roomLength, slotAt, serverAt, nthBlockAt, blockAt, sizesFit, Fit, Row}
 
 -- the test of the sizes and the bounds say the same
 pub fit-of : (z : Sizes) → sizesFit z ≡ true → Fit z
@@ -131,6 +133,28 @@ module _ (z : Sizes) (fit : Fit z) where
   pub base-room : base ≤ roomLength z
   unfolding roomLength
   base-room = omega arith
+
+-- n cells from a place on are in the row, and the row is short
+pub record Inside (cells : List ℕ) (at n : ℕ) : Type 0 where
+  pub end : at + n ≤ length cells
+  pub short : length cells ≤ longestRoom
+
+-- a part at the place that was computed for it
+module _ (z : Sizes) (cells : List ℕ) (row : Row z cells) where
+  inside : (at place n : ℕ) → at ≡ place → place + n ≤ roomLength z → Inside cells at n
+  inside at place n e h =
+      record {
+        end = omega (arith, row .exact);
+        short = omega (arith, row .exact, room-bound z (row .fit));
+      }
+
+  pub server-inside : (at s p : ℕ) → at ≡ serverAt z s p → s < z .slots → p < z .servers → Inside cells at serverLength
+  server-inside at s p e h l = inside at (serverAt z s p) serverLength e (server-within z (row .fit) s p h l)
+
+  pub block-inside
+      : (at s d p : ℕ) → at ≡ blockAt z s d p → s < z .slots → d < z .drives → p < z .servers
+      → Inside cells at blockLength
+  block-inside at s d p e h l k = inside at (blockAt z s d p) blockLength e (block-within z (row .fit) s d p h l k)
 
 -- n cells at a and m cells at b have none in common
 unfoldable pub Apart : ℕ → ℕ → ℕ → ℕ → Type 0

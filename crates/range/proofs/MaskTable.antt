@@ -5,6 +5,7 @@ use mathlib.Core.Bool.{Bool, true, _&&_}
 use native.Mathlib.Omega.{arith}
 use lib.Dec.{eqb, ltb}
 use borrow.Author.Tests.{eqb-true, ltb-true}
+use Rattle.lemmas.proofs.Tests.{and-left, and-right}
 use Rattle.quorum.specs.Sets.{allBelow, gathered}
 use Rattle.quorum.proofs.AllBelow.{all-at}
 use Rattle.state.specs.declared.Sizes.{Sizes}
@@ -18,11 +19,18 @@ driveBits d = 1 * 2 ^ d % 4294967296 - 1
 abbrev pub readBits : ℕ → ℕ → ℕ
 readBits n d = (1 * 2 ^ n % 4294967296 - 1) * (17895697 % (1 * 2 ^ (4 * d) % 4294967296))
 
+-- the legal marks by the same numbers
+abbrev drivesOf : ℕ → ℕ
+drivesOf d = gathered 32 (λ i. ltb i d)
+
+abbrev readsOf : ℕ → ℕ → ℕ
+readsOf n d = gathered 32 (λ i. ltb (i / 4) d && ltb (i % 4) n)
+
 drives-right : ℕ → Bool
-drives-right d = eqb (driveBits d) (gathered 32 (λ i. ltb i d))
+drives-right d = eqb (driveBits d) (drivesOf d)
 
 reads-right : ℕ → ℕ → Bool
-reads-right n d = eqb (readBits n d) (gathered 32 (λ i. ltb (i / 4) d && ltb (i % 4) n)) && ltb (readBits n d) 4294967296
+reads-right n d = eqb (readBits n d) (readsOf n d) && ltb (readBits n d) 4294967296
 
 drives-table : allBelow 8 drives-right ≡ true
 unfolding allBelow drives-right gathered
@@ -32,32 +40,25 @@ reads-table : allBelow 5 (λ n. allBelow 8 (reads-right n)) ≡ true
 unfolding allBelow reads-right gathered
 reads-table = refl
 
-pub drive-mask : (z : Sizes) → Fit z → driveBits (z .drives) ≡ legalDrives z
-unfolding legalDrives drives-right
-drive-mask z f =
-    eqb-true (driveBits (z .drives)) (gathered 32 (λ i. ltb i (z .drives)))
-    (all-at 8 drives-right drives-table (z .drives) (let b = f .drives in omega arith))
+module _ (z : Sizes) (f : Fit z) where
+  pub drive-mask : driveBits (z .drives) ≡ legalDrives z
+  unfolding legalDrives drives-right
+  drive-mask =
+      eqb-true (driveBits (z .drives)) (drivesOf (z .drives))
+      (all-at 8 drives-right drives-table (z .drives) (omega (arith, f .drives)))
 
-reads-at : (z : Sizes) → Fit z → reads-right (z .servers) (z .drives) ≡ true
-reads-at z f =
-    all-at 8 (reads-right (z .servers))
-    (all-at 5 (λ n. allBelow 8 (reads-right n)) reads-table (z .servers) (let b = f .servers in omega arith))
-    (z .drives) (let b = f .drives in omega arith)
+  reads-at : reads-right (z .servers) (z .drives) ≡ true
+  reads-at =
+      all-at 8 (reads-right (z .servers))
+      (all-at 5 (λ n. allBelow 8 (reads-right n)) reads-table (z .servers) (omega (arith, f .servers)))
+      (z .drives) (omega (arith, f .drives))
 
-pub read-mask : (z : Sizes) → Fit z → readBits (z .servers) (z .drives) ≡ legalReads z
-unfolding legalReads reads-right
-read-mask z f =
-    eqb-true (readBits (z .servers) (z .drives)) (gathered 32 (λ i. ltb (i / 4) (z .drives) && ltb (i % 4) (z .servers)))
-    (Rattle.lemmas.proofs.Tests.and-left
-    (eqb (readBits (z .servers) (z .drives)) (gathered 32 (λ i. ltb (i / 4) (z .drives) && ltb (i % 4) (z .servers))))
-    (ltb (readBits (z .servers) (z .drives)) 4294967296)
-    (reads-at z f))
+  pub read-mask : readBits (z .servers) (z .drives) ≡ legalReads z
+  unfolding legalReads reads-right
+  read-mask = eqb-true (readBits (z .servers) (z .drives)) (readsOf (z .servers) (z .drives)) (and-left _ _ reads-at)
 
-pub read-mask-small : (z : Sizes) → Fit z → readBits (z .servers) (z .drives) < 4294967296
-unfolding reads-right
-read-mask-small z f =
-    ltb-true (readBits (z .servers) (z .drives)) 4294967296
-    (Rattle.lemmas.proofs.Tests.and-right
-    (eqb (readBits (z .servers) (z .drives)) (gathered 32 (λ i. ltb (i / 4) (z .drives) && ltb (i % 4) (z .servers))))
-    (ltb (readBits (z .servers) (z .drives)) 4294967296)
-    (reads-at z f))
+  pub read-mask-small : readBits (z .servers) (z .drives) < 4294967296
+  unfolding reads-right
+  read-mask-small =
+      let bits = readBits (z .servers) (z .drives) in
+      ltb-true bits 4294967296 (and-right (eqb bits (readsOf (z .servers) (z .drives))) (ltb bits 4294967296) reads-at)

@@ -2,10 +2,17 @@
 use borrow.Author.Needs.{needs}
 use Rattle.layout.proofs.slot_length.Statement.{statement}
 use Rattle.layout.proofs.slot_length.Tie as tie
+use Prim.Native.Nat.{_*_, _≤_}
 use native.Mathlib.Omega.{arith}
 use mathlib.Core.Path.{refl}
 use Rattle.layout.specs.Places.{slotLength}
 use Rattle.layout.proofs.PlaceLaws.{blocks-bound}
+
+-- a slot has few blocks
+blocks
+    : (c : tie.After-struct-known3)
+    → c .before .before .before .args .z .drives * c .before .before .before .args .z .servers ≤ 28
+blocks c = let at = c .before .before .before in blocks-bound (at .args .z) (at .pre)
 
 cast-result : tie.Need-cast-result
 cast-result c = search needs
@@ -20,22 +27,13 @@ cast-result-3 : tie.Need-cast-result-3
 cast-result-3 c = search needs
 
 mul-result-2 : tie.Need-mul-result-2
-mul-result-2 c =
-    let at-args = c .before .before .before .args in
-    let at-pre = c .before .before .before .pre in
-    omega (arith, blocks-bound (at-args .z) at-pre)
+mul-result-2 c = omega (arith, blocks c)
 
 mul-result-3 : tie.Need-mul-result-3
-mul-result-3 c =
-    let at-args = c .before .before .before .args in
-    let at-pre = c .before .before .before .pre in
-    omega (arith, blocks-bound (at-args .z) at-pre)
+mul-result-3 c = omega (arith, blocks c)
 
 add-result : tie.Need-add-result
-add-result c =
-    let at-args = c .before .before .before .args in
-    let at-pre = c .before .before .before .pre in
-    omega (arith, blocks-bound (at-args .z) at-pre)
+add-result c = omega (arith, blocks c)
 
 returns : tie.Need-returns
 unfolding slotLength
