@@ -4,17 +4,17 @@ ghost use Rattle.record.specs.Fields.{fields, fieldsOf, stepOf};
 use state::Step;
 
 // A step as numbers: the kind and the five fields, 0 where the kind has no such field.
-pub(crate) struct Fields {
-    pub(crate) kind: u8,
-    pub(crate) server: u8,
-    pub(crate) slot: u8,
-    pub(crate) drive: u8,
-    pub(crate) other: u8,
-    pub(crate) number: u32,
+pub struct Fields {
+    pub kind: u8,
+    pub server: u8,
+    pub slot: u8,
+    pub drive: u8,
+    pub other: u8,
+    pub number: u32,
 }
 
 impl Fields {
-    pub(crate) fn new(kind: u8, server: u8, slot: u8, drive: u8, other: u8, number: u32) -> Self
+    pub fn new(kind: u8, server: u8, slot: u8, drive: u8, other: u8, number: u32) -> Self
         ensures { λ r. ⌜ r ≡ fields kind server slot drive other number ⌝ }
     {
         Self {
@@ -46,8 +46,8 @@ pub(crate) fn fields_of(step: Step) -> Fields
     }
 }
 
-// The step of a kind from 1 to 10 with these fields.
-pub(crate) fn step_of(f: Fields) -> Step
+// The step of a kind from 1 to 10 with these fields; a field that the kind lacks is not looked at.
+pub fn step_of(f: Fields) -> Step
     ensures { λ r. ⌜ r ≡ stepOf f ⌝ }
 {
     let kind = f.kind;

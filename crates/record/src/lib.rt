@@ -7,6 +7,8 @@ mod map;
 ghost use mathlib.Core.Path.{_≡_};
 ghost use Rattle.record.specs.Read.{readingOf};
 ghost use Rattle.record.specs.Write.{writingOf, writtenOf};
+pub use fields::Fields;
+pub use fields::step_of;
 use state::Step;
 
 // What reading answers: the step with the length used, or the refusal's number.

@@ -4,6 +4,7 @@ use Prim.Native.Nat.{ℕ}
 use mathlib.Core.Bool.{Bool, _&&_, cond}
 use mathlib.Core.List.{List}
 use lib.Dec.{leb}
+use Rattle.checks.specs.Checks.{Must, outcome}
 use Rattle.state.specs.declared.Sizes.{Sizes}
 use Rattle.state.specs.declared.Answer.{Answer}
 use Rattle.state.specs.declared.Answer.the-variants as answer
@@ -12,9 +13,9 @@ use Rattle.record.specs.declared.Reading.{Reading}
 use Rattle.record.specs.declared.Reading.the-variants as reading
 use Rattle.record.specs.declared.Writing.{Writing}
 use Rattle.record.specs.declared.Writing.the-variants as writing
-use Rattle.state.specs.declared.Step.{Step}
-use Rattle.record.specs.Fields.{fields, stepOf}
-use Rattle.record.specs.Write.{writingOf, writtenOf}
+use Rattle.record.specs.declared.fields.Fields.{Fields}
+use Rattle.record.specs.Fields.{stepOf}
+use Rattle.record.specs.Write.{recordOf, writeChecks, writtenBy}
 use Rattle.room.specs.Step.{answered, stepped}
 
 -- the cells of a room, 0 where the sizes do not fit
@@ -35,13 +36,9 @@ recordStepped room (reading.Refused n) = room
 abbrev pub kindKnown : ℕ → Bool
 kindKnown kind = leb 1 kind && leb kind 10
 
--- the step of a kind with these fields
-abbrev pub stepBy : ℕ → ℕ → ℕ → ℕ → ℕ → ℕ → Step
-stepBy kind p s d q n = stepOf (fields kind p s d q n)
+-- the step of the fields is written; a kind that is none of the ten is malformed, 15
+abbrev pub kindWriting : Fields → List ℕ → Writing
+kindWriting f buffer = outcome writing.Refused (Must (kindKnown (f .kind)) 15 (writeChecks (stepOf f) buffer))
 
--- a step's record; a kind that is none of the ten is malformed, 15
-abbrev pub kindWriting : ℕ → Step → List ℕ → Writing
-kindWriting kind step buffer = cond (kindKnown kind) (writingOf step buffer) (writing.Refused 15)
-
-abbrev pub kindWritten : ℕ → Step → List ℕ → List ℕ
-kindWritten kind step buffer = cond (kindKnown kind) (writtenOf step buffer) buffer
+abbrev pub kindWritten : Fields → List ℕ → List ℕ
+kindWritten f buffer = writtenBy (kindWriting f buffer) (recordOf (stepOf f)) buffer

@@ -2,15 +2,15 @@
 // takes any input at all; its contract gives the answer, packed in one number, and every lent cell or byte by the
 // definitions of the call that it wraps. A step is given by its record, and of a record that is read only the length is
 // answered.
-mod steps;
-
 ghost use mathlib.Core.Path.{_≡_};
 ghost use Rattle.state.specs.Sizes.{sizes};
 ghost use Rattle.room.specs.Open.{openRefusal, opening, opened};
+ghost use Rattle.record.specs.Fields.{fields};
 ghost use Rattle.record.specs.Read.{readingOf};
 ghost use Rattle.catalogue.specs.Call.{catalogueOf, catalogueCells};
 ghost use Rattle.register_c.specs.Packing.{packed, packedAnswer, packedListing, packedReading, packedWriting};
-ghost use Rattle.register_c.specs.Calls.{lengthOf, recordAnswered, recordStepped, stepBy, kindWriting, kindWritten};
+ghost use Rattle.register_c.specs.Calls.{lengthOf, recordAnswered, recordStepped, kindWriting, kindWritten};
+use record::Fields;
 use register::Listing;
 use register::Opening;
 use register::Reading;
@@ -96,13 +96,13 @@ pub extern "C" fn register_write(
     number: u32,
     bytes: &mut [u8],
 ) -> u64
-    ensures answer { λ r. ⌜ r ≡ packedWriting (kindWriting kind (stepBy kind server slot drive other number) (now (bytes .entry))) ⌝ }
-    ensures bytes { λ r. ⌜ now (bytes .exit) ≡ kindWritten kind (stepBy kind server slot drive other number) (now (bytes .entry)) ⌝ }
+    ensures answer { λ r. ⌜ r ≡ packedWriting (kindWriting (fields kind server slot drive other number) (now (bytes .entry))) ⌝ }
+    ensures bytes { λ r. ⌜ now (bytes .exit) ≡ kindWritten (fields kind server slot drive other number) (now (bytes .entry)) ⌝ }
 {
     if !((1 <= kind) & (kind <= 10)) {
         return pack(REFUSED, 15);
     }
-    let step = steps::step_of(kind, server, slot, drive, other, number);
+    let step = record::step_of(Fields::new(kind, server, slot, drive, other, number));
     match register::write_record(step, bytes) {
         Writing::Encoded(used) => used as u64,
         Writing::Refused(number) => pack(REFUSED, number),

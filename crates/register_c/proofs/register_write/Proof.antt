@@ -1,25 +1,48 @@
 -- `register_c::register_write` meets its contract: the step of the fields is written; an unknown kind changes nothing.
+use Prim.Native.Nat.{ℕ}
+use mathlib.Core.List.{List}
+use mathlib.Core.Path.{_∙_, sym, ap}
 use borrow.Author.Needs.{needs}
+use borrow.Author.Tests.{not-true, not-false}
+use Rattle.record.specs.Fields.{fields, stepOf}
+use Rattle.record.specs.declared.fields.Fields.{Fields}
+use Rattle.register_c.specs.Packing.{packedWriting}
+use Rattle.register_c.proofs.Halves.{no-word}
+use Rattle.register_c.proofs.WriteLaws.{Writes, known, unknown}
 use Rattle.register_c.proofs.register_write.Statement.{statement}
 use Rattle.register_c.proofs.register_write.Tie as tie
-use mathlib.Core.Path.{_∙_, sym, ap}
-use borrow.Author.Tests.{not-true, not-false}
-use Rattle.register_c.specs.Packing.{packedWriting}
-use Rattle.register_c.specs.Calls.{stepBy}
-use Rattle.register_c.proofs.Halves.{no-word}
-use Rattle.register_c.proofs.WriteLaws.{known, unknown}
+
+-- the fields and the bytes that the caller gave
+abbrev given : tie.Start → Fields
+given c = let a = c .args in fields (a .kind) (a .server) (a .slot) (a .drive) (a .other) (a .number)
+
+abbrev old : tie.Start → List ℕ
+old c = c .args .bytes .now
+
+-- the entry, from the place behind the write
+abbrev entry : tie.After-write-record → tie.Start
+entry c = c .before .before .before .before .before .before
+
+wrote : (c : tie.After-write-record)
+    → Writes (given (entry c)) (old (entry c)) (c .write-record .result) (c .write-record .last .1 .0)
+wrote c =
+    let at-step = c .before .before in
+    let at-new = at-step .before in
+    let told = c .write-record .ensures in
+    known (given (entry c)) (old (entry c)) _ _ (at-step .step-of .result) (not-false _ (at-new .before .if1 .left))
+    (at-step .step-of .ensures ∙ ap stepOf (at-new .new .ensures)) (told .0) (told .1)
 
 pack-requires : tie.Need-pack-requires
 pack-requires c κs = search needs
 
 returns : tie.Need-returns
 returns c =
-    let at-args = c .before .before .before .args in
-    let at-if1 = c .before .if1 in
-    let at-pack = c .pack in
-    let st = stepBy (at-args .kind) (at-args .server) (at-args .slot) (at-args .drive) (at-args .other) (at-args .number) in
-    let u = unknown (at-args .kind) st (at-args .bytes .now) (not-true _ (at-if1 .taken)) in
-    (at-pack .ensures ∙ ap packedWriting (u .answers), u .leaves)
+    let start = c .before .before .before in
+    let u = unknown (given start) (old start) (not-true _ (c .before .if1 .taken)) in
+    (c .pack .ensures ∙ ap packedWriting (u .answers), u .leaves)
+
+new-requires : tie.Need-new-requires
+new-requires c κs = search needs
 
 step-of-requires : tie.Need-step-of-requires
 step-of-requires c κs = search needs
@@ -41,35 +64,16 @@ same-length c = search needs
 
 returns-2 : tie.Need-returns-2
 returns-2 c =
-    let at-args = c .before .before .before .before .before .before .before .before .before .before .args in
-    let at-step-of = c .before .before .before .before .before .before .before .step-of in
-    let at-if1 = c .before .before .before .before .before .before .before .before .if1 in
-    let at-write-record = c .before .before .before .before .before .write-record in
-    let at-used = c .before .used in
-    let st = stepBy (at-args .kind) (at-args .server) (at-args .slot) (at-args .drive) (at-args .other) (at-args .number) in
-    let told = at-write-record .ensures in
-    let k =
-    known (at-args .kind) st (at-args .bytes .now) _ _ (at-step-of .result) (not-false _ (at-if1 .left))
-    (at-step-of .ensures) (told .0) (told .1) in
-    (no-word _ ∙ sym (ap packedWriting (at-used .given .1)) ∙ ap packedWriting (k .answers), k .leaves)
+    let w = wrote (c .before .before .before .before .before) in
+    (no-word _ ∙ ap packedWriting (sym (c .before .used .given .1) ∙ w .answers), w .leaves)
 
 same-length-2 : tie.Need-same-length-2
 same-length-2 c = search needs
 
 returns-3 : tie.Need-returns-3
 returns-3 c =
-    let at-args = c .before .before .before .before .before .before .before .before .before .before .before .args in
-    let at-step-of = c .before .before .before .before .before .before .before .before .step-of in
-    let at-if1 = c .before .before .before .before .before .before .before .before .before .if1 in
-    let at-write-record = c .before .before .before .before .before .before .write-record in
-    let at-pack2 = c .pack2 in
-    let at-number = c .before .before .number in
-    let st = stepBy (at-args .kind) (at-args .server) (at-args .slot) (at-args .drive) (at-args .other) (at-args .number) in
-    let told = at-write-record .ensures in
-    let k =
-    known (at-args .kind) st (at-args .bytes .now) _ _ (at-step-of .result) (not-false _ (at-if1 .left))
-    (at-step-of .ensures) (told .0) (told .1) in
-    (at-pack2 .ensures ∙ sym (ap packedWriting (at-number .given .1)) ∙ ap packedWriting (k .answers), k .leaves)
+    let w = wrote (c .before .before .before .before .before .before) in
+    (c .pack2 .ensures ∙ ap packedWriting (sym (c .before .before .number .given .1) ∙ w .answers), w .leaves)
 
 pub register-write-spec : {M : Type 1} → statement M
 register-write-spec =
@@ -77,6 +81,7 @@ register-write-spec =
     (tie.spec
     pack-requires
     returns
+    new-requires
     step-of-requires
     write-record-requires
     enum-known-used
