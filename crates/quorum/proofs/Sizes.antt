@@ -1,13 +1,11 @@
 -- How many drives a set has. The count of ones is that number, and a majority looks at nothing else.
-use Prim.Native.Nat.{ℕ, zero, suc, _+_, _*_, _/_, _%_, _^_, _<_, _≤_}
+use Prim.Native.Nat.{ℕ, zero, suc, _+_, _/_, _%_, _^_, _<_, _≤_}
 use mathlib.Core.Path.{_≡_, refl, _∙_, sym, ap, ap₂}
 use mathlib.Core.Bool.{Bool, true, false, cond}
 use native.Mathlib.Omega.{arith}
 use native.Mathlib.Nat.{mod-lt}
-use lib.Dec.{ltb}
 use lib.Count.{ones, onesIn, ones-cat}
 use lib.Pow.{pow-pos, mod-pow-add}
-use borrow.Author.Tests.{lt-ltb, ltb-true}
 use Rattle.quorum.specs.Marks.{stands}
 use Rattle.quorum.specs.Sets.{size, majority}
 use Rattle.lemmas.proofs.Tests.{by-test}
@@ -33,12 +31,6 @@ size-more (suc n) f g h =
     let last : cond (f n) 1 0 ≤ cond (g n) 1 0 = one-more (f n) (g n) (h n (omega arith)) in
     omega (arith, size-suc n f, size-suc n g)
 
--- a set with every drive of a majority is one
-pub majority-more : (n : ℕ) (f g : ℕ → Bool) → ((d : ℕ) → d < n → f d ≡ true → g d ≡ true) → majority n f ≡ true → majority n g ≡ true
-unfolding majority
-majority-more n f g h e =
-    lt-ltb n (2 * size n g) (omega (arith, size-more n f g h, ltb-true n (2 * size n f) e))
-
 -- majority looks at the drives below n alone
 pub size-same : (n : ℕ) (f g : ℕ → Bool) → ((d : ℕ) → d < n → f d ≡ g d) → size n f ≡ size n g
 size-same n f g h =
@@ -47,7 +39,7 @@ size-same n f g h =
 
 pub majority-same : (n : ℕ) (f g : ℕ → Bool) → ((d : ℕ) → d < n → f d ≡ g d) → majority n f ≡ majority n g
 unfolding majority
-majority-same n f g h = ap (λ (k : ℕ). ltb n (2 * k)) (size-same n f g h)
+majority-same n f g h = rw (size-same n f g h)
 
 -- "counted as the ones in a mark cell": the ones below bit n are the drives whose bit stands
 one-digit : (m n : ℕ) → ones (m / 2 ^ n % 2) ≡ cond (stands m n) 1 0
