@@ -30,7 +30,7 @@ pub fn read_record(bytes: &[u8]) -> Reading
     if bytes.len() < 1 {
         return Reading::Refused(14);
     }
-    let map = map::wide(bytes[0]);
+    let map = bytes[0] as usize;
     if 32 <= map {
         return Reading::Refused(15);
     }

@@ -33,7 +33,7 @@ const FIELDS: [u8; 11] = [
 ];
 
 // A byte as a number to count with.
-pub(crate) fn wide(byte: u8) -> usize
+fn wide(byte: u8) -> usize
     ensures { λ r. ⌜ r ≡ byte ⌝ }
 {
     byte as usize

@@ -3,13 +3,14 @@ use Prim.Native.Nat.{ℕ, zero, suc}
 use mathlib.Core.Bool.{not}
 use mathlib.Core.List.{List}
 use mathlib.Core.Path.{_≡_, _∙_, sym, ap, ap₂}
+use native.Mathlib.Omega.{arith}
 use borrow.Author.Needs.{needs}
 use borrow.Author.Tests.{lt-ltb, le-ltb, lt-leb, le-leb}
 use lib.ListN.{getD}
 use Rattle.checks.specs.Checks.{Checked, Must, Either, Gives, outcome}
 use Rattle.checks.proofs.CheckLaws.{passes, fails}
-use Rattle.record.specs.Fields.{stepOf, withValues, valuesOf}
-use Rattle.record.specs.Map.{widths, malformed, recordLength, zeroAmong}
+use Rattle.record.specs.Fields.{stepOf, valuesOf}
+use Rattle.record.specs.Map.{widths, zeroAmong}
 use Rattle.record.specs.Read.{readChecks, readingOf, valuesAt}
 use Rattle.record.specs.declared.Reading.the-variants.{Decoded, Refused}
 use Rattle.record.specs.declared.Reading.{Reading}
@@ -32,7 +33,7 @@ abbrev bytes-1 : tie.Else1 → List ℕ
 bytes-1 c = c .before .before .args .bytes .now
 
 abbrev bytes-2 : tie.Else2 → List ℕ
-bytes-2 c = bytes-1 (c .before .before .before)
+bytes-2 c = bytes-1 (c .before .before)
 
 abbrev bytes-3 : tie.Else3 → List ℕ
 bytes-3 c = bytes-2 (c .before)
@@ -46,48 +47,23 @@ bytes-5 c = bytes-4 (c .before .before)
 abbrev bytes-6 : tie.Else6 → List ℕ
 bytes-6 c = bytes-5 (c .before .before .before)
 
--- what the calls said of the bytes
-map-is : (c : tie.After-wide) → c .wide .result ≡ getD (bytes-1 (c .before .before)) 0 0
-map-is c = c .wide .ensures
-
-malformed-is : (c : tie.After-malformed)
-    → c .malformed .result ≡ malformed (getD (bytes-3 (c .before .before)) 0 0) (getD (bytes-3 (c .before .before)) 1 0)
-malformed-is c =
-    let s = bytes-3 (c .before .before) in
-    c .malformed .ensures
-    ∙ ap (λ (m : ℕ). malformed m (getD s 1 0)) (map-is (c .before .before .before .before))
-
-length-is : (c : tie.After-record-length) → c .record-length .result ≡ recordLength (getD (bytes-4 (c .before)) 0 0)
-length-is c = c .record-length .ensures ∙ ap recordLength (map-is (c .before .before .before .before .before .before))
-
-values-of : List ℕ → List ℕ
-values-of s = valuesAt widths (getD s 0 0) s 2
-
-fields-is : (c : tie.After-fields-at)
-    → c .fields-at .result ≡ withValues (getD (bytes-5 (c .before)) 1 0) (values-of (bytes-5 (c .before)))
-unfolding values-of
-fields-is c =
-    let s = bytes-5 (c .before) in
-    c .fields-at .ensures
-    ∙ ap (λ (m : ℕ). withValues (getD s 1 0) (valuesAt widths m s 2))
-    (map-is (c .before .before .before .before .before .before .before .before))
-
+-- the fields that were found are those of `valuesAt`
 zero-is : (c : tie.After-zero-among)
-    → c .zero-among .result ≡ zeroAmong (getD (bytes-5 (c .before .before)) 0 0) (values-of (bytes-5 (c .before .before)))
-unfolding values-of valuesAt
+    → let s = bytes-5 (c .before .before) in
+    zeroAmong (getD s 0 0) (valuesAt widths (getD s 0 0) s 2) ≡ c .zero-among .result
+unfolding valuesAt
 zero-is c =
-    c .zero-among .ensures
-    ∙ ap₂ (λ (m : ℕ) (f : Fields). zeroAmong m (valuesOf f))
-    (map-is (c .before .before .before .before .before .before .before .before .before)) (fields-is (c .before))
+    let m = getD (bytes-5 (c .before .before)) 0 0 in
+    sym (c .zero-among .ensures ∙ ap (λ (f : Fields). zeroAmong m (valuesOf f)) (c .before .fields-at .ensures))
 
--- what is left to judge there
+-- what is left to judge behind each check
 pass-1 : (c : tie.Else1) → readingOf (bytes-1 c) ≡ rest 1 (bytes-1 c)
 unfolding readingOf readChecks
 pass-1 c = passes Refused _ 14 _ (le-leb _ _ (c .if1 .left))
 
 pass-2 : (c : tie.Else2) → readingOf (bytes-2 c) ≡ rest 2 (bytes-2 c)
 unfolding readChecks
-pass-2 c = pass-1 (c .before .before .before) ∙ passes Refused _ 15 _ (cc (lt-ltb _ _ (c .if2 .left)))
+pass-2 c = pass-1 (c .before .before) ∙ passes Refused _ 15 _ (lt-ltb _ _ (c .if2 .left))
 
 pass-3 : (c : tie.Else3) → readingOf (bytes-3 c) ≡ rest 3 (bytes-3 c)
 unfolding readChecks
@@ -96,73 +72,57 @@ pass-3 c = pass-2 (c .before) ∙ passes Refused _ 14 _ (le-leb _ _ (c .if3 .lef
 pass-4 : (c : tie.Else4) → readingOf (bytes-4 c) ≡ rest 4 (bytes-4 c)
 unfolding readChecks
 pass-4 c =
-    pass-3 (c .before .before .before) ∙ passes Refused _ 15 _ (ap not (sym (malformed-is (c .before)) ∙ c .if4 .left))
+    pass-3 (c .before .before .before)
+    ∙ passes Refused _ 15 _ (ap not (sym (c .before .malformed .ensures) ∙ c .if4 .left))
 
 pass-5 : (c : tie.Else5) → readingOf (bytes-5 c) ≡ rest 5 (bytes-5 c)
 unfolding readChecks
-pass-5 c = pass-4 (c .before .before) ∙ passes Refused _ 14 _ (le-leb _ _ (rw (length-is (c .before)) at (c .if5 .left)))
+pass-5 c =
+    pass-4 (c .before .before)
+    ∙ passes Refused _ 14 _ (le-leb _ _ (rw (c .before .record-length .ensures) at (c .if5 .left)))
 
 pass-6 : (c : tie.Else6) → readingOf (bytes-6 c) ≡ rest 6 (bytes-6 c)
-unfolding readChecks values-of
-pass-6 c =
-    pass-5 (c .before .before .before) ∙ passes Refused _ 15 _ (ap not (sym (zero-is (c .before)) ∙ c .if6 .left))
+unfolding readChecks
+pass-6 c = pass-5 (c .before .before .before) ∙ passes Refused _ 15 _ (ap not (zero-is (c .before) ∙ c .if6 .left))
 
+-- the check that refused
 returns : tie.Need-returns
 unfolding readingOf readChecks
 returns c = sym (fails Refused _ 14 _ (lt-leb _ _ (c .if1 .taken)))
 
-shared-slice-read-wide : tie.Need-shared-slice-read-wide
-shared-slice-read-wide c = search needs
-
-wide-requires : tie.Need-wide-requires
-wide-requires c κs = search needs
-
 returns-2 : tie.Need-returns-2
 unfolding readChecks
-returns-2 c = sym (pass-1 (c .before .before .before) ∙ fails Refused _ 15 _ (cc (le-ltb _ _ (c .if2 .taken))))
+returns-2 c = sym (pass-1 (c .before .before) ∙ fails Refused _ 15 _ (le-ltb _ _ (c .if2 .taken)))
 
 returns-3 : tie.Need-returns-3
 unfolding readChecks
 returns-3 c = sym (pass-2 (c .before) ∙ fails Refused _ 14 _ (lt-leb _ _ (c .if3 .taken)))
 
-shared-slice-read-kind : tie.Need-shared-slice-read-kind
-shared-slice-read-kind c = search needs
-
-malformed-requires : tie.Need-malformed-requires
-malformed-requires c κs = search needs
-
 returns-4 : tie.Need-returns-4
 unfolding readChecks
 returns-4 c =
     sym
-    (pass-3 (c .before .before .before) ∙ fails Refused _ 15 _ (ap not (sym (malformed-is (c .before)) ∙ c .if4 .taken)))
-
-record-length-requires : tie.Need-record-length-requires
-record-length-requires c κs = search needs
+    (pass-3 (c .before .before .before)
+    ∙ fails Refused _ 15 _ (ap not (sym (c .before .malformed .ensures) ∙ c .if4 .taken)))
 
 returns-5 : tie.Need-returns-5
 unfolding readChecks
-returns-5 c = sym (pass-4 (c .before .before) ∙ fails Refused _ 14 _ (lt-leb _ _ (rw (length-is (c .before)) at (c .if5 .taken))))
-
-fields-at-requires : tie.Need-fields-at-requires
-fields-at-requires c κs = search needs
-
-zero-among-requires : tie.Need-zero-among-requires
-zero-among-requires c κs = search needs
+returns-5 c =
+    sym
+    (pass-4 (c .before .before)
+    ∙ fails Refused _ 14 _ (lt-leb _ _ (rw (c .before .record-length .ensures) at (c .if5 .taken))))
 
 returns-6 : tie.Need-returns-6
-unfolding readChecks values-of
+unfolding readChecks
 returns-6 c =
-    sym (pass-5 (c .before .before .before) ∙ fails Refused _ 15 _ (ap not (sym (zero-is (c .before)) ∙ c .if6 .taken)))
-
-step-of-requires : tie.Need-step-of-requires
-step-of-requires c κs = search needs
+    sym (pass-5 (c .before .before .before) ∙ fails Refused _ 15 _ (ap not (zero-is (c .before) ∙ c .if6 .taken)))
 
 returns-7 : tie.Need-returns-7
-unfolding readChecks values-of
+unfolding readChecks
 returns-7 c =
     let at-fields = c .before .before .before in
-    ap₂ Decoded (c .step-of .ensures ∙ ap stepOf (fields-is at-fields)) (length-is (at-fields .before .before))
+    ap₂ Decoded (c .step-of .ensures ∙ ap stepOf (at-fields .fields-at .ensures))
+    (at-fields .before .before .record-length .ensures)
     ∙ sym (pass-6 (c .before))
 
 pub read-record-spec : {M : Type 1} → statement M
@@ -170,17 +130,17 @@ read-record-spec =
     tie.close
     (tie.spec
     returns
-    shared-slice-read-wide
-    wide-requires
+    (λ c. search needs)
+    (λ c. omega (arith, c .shared-slice-known2 .given 0))
     returns-2
     returns-3
-    shared-slice-read-kind
-    malformed-requires
+    (λ c. search needs)
+    (λ c κs. search needs)
     returns-4
-    record-length-requires
+    (λ c κs. search needs)
     returns-5
-    fields-at-requires
-    zero-among-requires
+    (λ c κs. search needs)
+    (λ c κs. search needs)
     returns-6
-    step-of-requires
+    (λ c κs. search needs)
     returns-7)

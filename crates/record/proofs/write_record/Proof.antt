@@ -42,15 +42,6 @@ says : (step : Step) (buffer : List ℕ) (w : Writing) → writingOf step buffer
 unfolding writtenOf
 says step buffer w e = (sym e, ap (λ (x : Writing). writtenBy x (recordOf step) buffer) (sym e))
 
-fields-of-requires : tie.Need-fields-of-requires
-fields-of-requires c κs = search needs
-
-map-of-requires : tie.Need-map-of-requires
-map-of-requires c κs = search needs
-
-record-length-requires : tie.Need-record-length-requires
-record-length-requires c κs = search needs
-
 returns : tie.Need-returns
 unfolding writingOf writeChecks
 returns c =
@@ -62,9 +53,6 @@ put-fields-requires c κs =
     let f = at-map .before .fields-of .result in
     let small = map-small (maskOf (f .kind)) (valuesOf f) in
     (rw (at-map .map-of .ensures) small, rw (← c .before .before .record-length .ensures) (c .before .if1 .left))
-
-same-length : tie.Need-same-length
-same-length c = search needs
 
 returns-2 : tie.Need-returns-2
 unfolding writingOf writeChecks
@@ -87,10 +75,10 @@ pub write-record-spec : {M : Type 1} → statement M
 write-record-spec =
     tie.close
     (tie.spec
-    fields-of-requires
-    map-of-requires
-    record-length-requires
+    (λ c κs. search needs)
+    (λ c κs. search needs)
+    (λ c κs. search needs)
     returns
     put-fields-requires
-    same-length
+    (λ c. search needs)
     returns-2)

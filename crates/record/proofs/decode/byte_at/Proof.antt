@@ -8,9 +8,6 @@ use Rattle.record.proofs.Bytes.{low-more, low-none}
 use Rattle.record.proofs.decode.byte_at.Statement.{statement}
 use Rattle.record.proofs.decode.byte_at.Tie as tie
 
-shared-slice-read-result : tie.Need-shared-slice-read-result
-shared-slice-read-result c = search needs
-
 returns : tie.Need-returns
 returns c =
     let a = c .before .before .args in
@@ -26,4 +23,4 @@ returns-2 c =
     rw none (sym (low-none (drop (a .at) (a .bytes .now))))
 
 pub byte-at-spec : {M : Type 1} → statement M
-byte-at-spec = tie.close (tie.spec shared-slice-read-result returns returns-2)
+byte-at-spec = tie.close (tie.spec (λ c. search needs) returns returns-2)

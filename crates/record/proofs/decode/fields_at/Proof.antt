@@ -8,18 +8,6 @@ use Rattle.record.proofs.decode.fields_at.Tie as tie
 fits : (c : tie.Start) → Places (c .args .map) (length (c .args .bytes .now))
 fits c = places (c .args .map) (length (c .args .bytes .now)) (c .pre)
 
-add-slot-at : tie.Need-add-slot-at
-add-slot-at c = search needs
-
-add-drive-at : tie.Need-add-drive-at
-add-drive-at c = search needs
-
-add-other-at : tie.Need-add-other-at
-add-other-at c = search needs
-
-add-number-at : tie.Need-add-number-at
-add-number-at c = search needs
-
 byte-at-requires : tie.Need-byte-at-requires
 byte-at-requires c κs = fits (c .before) .server
 
@@ -34,9 +22,6 @@ byte-at-requires-4 c κs = fits (c .before .before .before .before) .other
 
 word-at-requires : tie.Need-word-at-requires
 word-at-requires c κs = fits (c .before .before .before .before .before) .number
-
-new-requires : tie.Need-new-requires
-new-requires c κs = search needs
 
 returns : tie.Need-returns
 returns c =
@@ -53,14 +38,14 @@ pub fields-at-spec : {M : Type 1} → statement M
 fields-at-spec =
     tie.close
     (tie.spec
-    add-slot-at
-    add-drive-at
-    add-other-at
-    add-number-at
+    (λ c. search needs)
+    (λ c. search needs)
+    (λ c. search needs)
+    (λ c. search needs)
     byte-at-requires
     byte-at-requires-2
     byte-at-requires-3
     byte-at-requires-4
     word-at-requires
-    new-requires
+    (λ c κs. search needs)
     returns)

@@ -8,57 +8,6 @@ use Rattle.record.proofs.Bytes.{low-four, low-none}
 use Rattle.record.proofs.decode.word_at.Statement.{statement}
 use Rattle.record.proofs.decode.word_at.Tie as tie
 
-shared-slice-read-long : tie.Need-shared-slice-read-long
-shared-slice-read-long c = search needs
-
-long-requires : tie.Need-long-requires
-long-requires c κs = search needs
-
-add-long : tie.Need-add-long
-add-long c = search needs
-
-shared-slice-read-long-2 : tie.Need-shared-slice-read-long-2
-shared-slice-read-long-2 c = search needs
-
-long-requires-2 : tie.Need-long-requires-2
-long-requires-2 c κs = search needs
-
-mul-low : tie.Need-mul-low
-mul-low c = search needs
-
-add-low : tie.Need-add-low
-add-low c = search needs
-
-add-long-2 : tie.Need-add-long-2
-add-long-2 c = search needs
-
-shared-slice-read-long-3 : tie.Need-shared-slice-read-long-3
-shared-slice-read-long-3 c = search needs
-
-long-requires-3 : tie.Need-long-requires-3
-long-requires-3 c κs = search needs
-
-add-long-3 : tie.Need-add-long-3
-add-long-3 c = search needs
-
-shared-slice-read-long-4 : tie.Need-shared-slice-read-long-4
-shared-slice-read-long-4 c = search needs
-
-long-requires-4 : tie.Need-long-requires-4
-long-requires-4 c κs = search needs
-
-mul-high : tie.Need-mul-high
-mul-high c = search needs
-
-add-high : tie.Need-add-high
-add-high c = search needs
-
-mul-result : tie.Need-mul-result
-mul-result c = search needs
-
-add-result : tie.Need-add-result
-add-result c = search needs
-
 returns : tie.Need-returns
 returns c =
     let third = c .before .before in
@@ -84,22 +33,22 @@ pub word-at-spec : {M : Type 1} → statement M
 word-at-spec =
     tie.close
     (tie.spec
-    shared-slice-read-long
-    long-requires
-    add-long
-    shared-slice-read-long-2
-    long-requires-2
-    mul-low
-    add-low
-    add-long-2
-    shared-slice-read-long-3
-    long-requires-3
-    add-long-3
-    shared-slice-read-long-4
-    long-requires-4
-    mul-high
-    add-high
-    mul-result
-    add-result
+    (λ c. search needs)
+    (λ c κs. search needs)
+    (λ c. search needs)
+    (λ c. search needs)
+    (λ c κs. search needs)
+    (λ c. search needs)
+    (λ c. search needs)
+    (λ c. search needs)
+    (λ c. search needs)
+    (λ c κs. search needs)
+    (λ c. search needs)
+    (λ c. search needs)
+    (λ c κs. search needs)
+    (λ c. search needs)
+    (λ c. search needs)
+    (λ c. search needs)
+    (λ c. search needs)
     returns
     returns-2)

@@ -7,12 +7,6 @@ use Rattle.record.specs.Write.{lowFirst}
 use Rattle.record.proofs.encode.put_byte.Statement.{statement}
 use Rattle.record.proofs.encode.put_byte.Tie as tie
 
-slice-write-buffer : tie.Need-slice-write-buffer
-slice-write-buffer c = search needs
-
-same-length : tie.Need-same-length
-same-length c = search needs
-
 returns : tie.Need-returns
 unfolding lowFirst
 returns c =
@@ -27,4 +21,4 @@ returns-2 c =
     rw none
 
 pub put-byte-spec : {M : Type 1} → statement M
-put-byte-spec = tie.close (tie.spec slice-write-buffer same-length returns returns-2)
+put-byte-spec = tie.close (tie.spec (λ c. search needs) (λ c. search needs) returns returns-2)

@@ -4,42 +4,6 @@ use Rattle.record.specs.Fields.{stepOf}
 use Rattle.record.proofs.fields.step_of.Statement.{statement}
 use Rattle.record.proofs.fields.step_of.Tie as tie
 
-returns : tie.Need-returns
-unfolding stepOf
-returns c = rw (c .match .keys1)
-
-returns-2 : tie.Need-returns-2
-unfolding stepOf
-returns-2 c = rw (c .match .keys2)
-
-returns-3 : tie.Need-returns-3
-unfolding stepOf
-returns-3 c = rw (c .match .keys3)
-
-returns-4 : tie.Need-returns-4
-unfolding stepOf
-returns-4 c = rw (c .match .keys4)
-
-returns-5 : tie.Need-returns-5
-unfolding stepOf
-returns-5 c = rw (c .match .keys5)
-
-returns-6 : tie.Need-returns-6
-unfolding stepOf
-returns-6 c = rw (c .match .keys6)
-
-returns-7 : tie.Need-returns-7
-unfolding stepOf
-returns-7 c = rw (c .match .keys7)
-
-returns-8 : tie.Need-returns-8
-unfolding stepOf
-returns-8 c = rw (c .match .keys8)
-
-returns-9 : tie.Need-returns-9
-unfolding stepOf
-returns-9 c = rw (c .match .keys9)
-
 returns-10 : tie.Need-returns-10
 unfolding stepOf
 returns-10 c =
@@ -63,13 +27,13 @@ pub step-of-spec : {M : Type 1} → statement M
 step-of-spec =
     tie.close
     (tie.spec
-    returns
-    returns-2
-    returns-3
-    returns-4
-    returns-5
-    returns-6
-    returns-7
-    returns-8
-    returns-9
+    (λ c. unfold stepOf in rw (c .match .keys1))
+    (λ c. unfold stepOf in rw (c .match .keys2))
+    (λ c. unfold stepOf in rw (c .match .keys3))
+    (λ c. unfold stepOf in rw (c .match .keys4))
+    (λ c. unfold stepOf in rw (c .match .keys5))
+    (λ c. unfold stepOf in rw (c .match .keys6))
+    (λ c. unfold stepOf in rw (c .match .keys7))
+    (λ c. unfold stepOf in rw (c .match .keys8))
+    (λ c. unfold stepOf in rw (c .match .keys9))
     returns-10)

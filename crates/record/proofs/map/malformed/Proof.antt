@@ -6,12 +6,9 @@ use Rattle.record.specs.Map.{malformed, asksMore}
 use Rattle.record.proofs.map.malformed.Statement.{statement}
 use Rattle.record.proofs.map.malformed.Tie as tie
 
-mask-of-requires : tie.Need-mask-of-requires
-mask-of-requires c κs = search needs
-
 returns : tie.Need-returns
 unfolding malformed asksMore
 returns c = rw (c .mask-of .ensures) (simp (div-div-eq-div-mul, or-assoc, or-false))
 
 pub malformed-spec : {M : Type 1} → statement M
-malformed-spec = tie.close (tie.spec mask-of-requires returns)
+malformed-spec = tie.close (tie.spec (λ c κs. search needs) returns)

@@ -8,48 +8,6 @@ use Rattle.record.proofs.Five.{map-of}
 use Rattle.record.proofs.map.map_of.Statement.{statement}
 use Rattle.record.proofs.map.map_of.Tie as tie
 
-mask-of-requires : tie.Need-mask-of-requires
-mask-of-requires c κs = search needs
-
-bit-requires : tie.Need-bit-requires
-bit-requires c κs = search needs
-
-bit-requires-2 : tie.Need-bit-requires-2
-bit-requires-2 c κs = search needs
-
-mul-other : tie.Need-mul-other
-mul-other c = omega arith
-
-add-other : tie.Need-add-other
-add-other c = omega arith
-
-bit-requires-3 : tie.Need-bit-requires-3
-bit-requires-3 c κs = search needs
-
-mul-drive : tie.Need-mul-drive
-mul-drive c = omega arith
-
-add-drive : tie.Need-add-drive
-add-drive c = omega arith
-
-bit-requires-4 : tie.Need-bit-requires-4
-bit-requires-4 c κs = search needs
-
-mul-slot : tie.Need-mul-slot
-mul-slot c = omega arith
-
-add-slot : tie.Need-add-slot
-add-slot c = omega arith
-
-bit-requires-5 : tie.Need-bit-requires-5
-bit-requires-5 c κs = search needs
-
-mul-result : tie.Need-mul-result
-mul-result c = omega arith
-
-add-result : tie.Need-add-result
-add-result c = omega arith
-
 returns : tie.Need-returns
 returns c =
     let at4 = c .before .before in
@@ -70,18 +28,18 @@ pub map-of-spec : {M : Type 1} → statement M
 map-of-spec =
     tie.close
     (tie.spec
-    mask-of-requires
-    bit-requires
-    bit-requires-2
-    mul-other
-    add-other
-    bit-requires-3
-    mul-drive
-    add-drive
-    bit-requires-4
-    mul-slot
-    add-slot
-    bit-requires-5
-    mul-result
-    add-result
+    (λ c κs. search needs)
+    (λ c κs. search needs)
+    (λ c κs. search needs)
+    (λ c. omega arith)
+    (λ c. omega arith)
+    (λ c κs. search needs)
+    (λ c. omega arith)
+    (λ c. omega arith)
+    (λ c κs. search needs)
+    (λ c. omega arith)
+    (λ c. omega arith)
+    (λ c κs. search needs)
+    (λ c. omega arith)
+    (λ c. omega arith)
     returns)

@@ -7,12 +7,6 @@ use Rattle.record.specs.Fields.{maskOf, fieldTable}
 use Rattle.record.proofs.map.mask_of.Statement.{statement}
 use Rattle.record.proofs.map.mask_of.Tie as tie
 
-array-read-wide : tie.Need-array-read-wide
-array-read-wide c = search needs
-
-wide-requires : tie.Need-wide-requires
-wide-requires c κs = search needs
-
 returns : tie.Need-returns
 unfolding maskOf
 returns c = c .wide .ensures
@@ -22,4 +16,4 @@ unfolding maskOf
 returns-2 c = sym (List·getD-eq-default fieldTable 0 {n = c .before .args .kind} (omega arith))
 
 pub mask-of-spec : {M : Type 1} → statement M
-mask-of-spec = tie.close (tie.spec array-read-wide wide-requires returns returns-2)
+mask-of-spec = tie.close (tie.spec (λ c. search needs) (λ c κs. search needs) returns returns-2)
