@@ -15,7 +15,8 @@ use Rattle.synod.proofs.Machine.{blankSlot}
 use Rattle.synod.proofs.Past.{noGhost}
 use Rattle.synod.specs.Slot.{configOf}
 use Rattle.synod.proofs.Invariant.{begins}
-use Rattle.layout.specs.Places.{base, roomLength, serverAt, nthBlockAt, blockAt, Fit}
+use Rattle.layout.specs.Places.{base, roomLength, serverAt, nthBlockAt, blockAt, Fit, serverLength, blockLength}
+use Rattle.layout.proofs.CellLaws.{server-read, block-read}
 use Rattle.layout.specs.Cells.{serverIn, serverOf, blockIn, blockOf}
 use Rattle.layout.proofs.PlaceLaws.{base-room, base-server, base-nth}
 use Rattle.range.specs.Range.{legalDrives, masksOf, serverFits, blockFits}
@@ -43,36 +44,11 @@ opened-from z i h =
 
 opened-server : (z : Sizes) (at : ℕ) → base ≤ at → serverIn (openedCells z) at ≡ failed
 opened-server z at h =
-    let a = opened-from z at (omega arith) in
-    let b = opened-from z (at + 1) (omega arith) in
-    let c = opened-from z (at + 2) (omega arith) in
-    let d = opened-from z (at + 3) (omega arith) in
-    let e = opened-from z (at + 4) (omega arith) in
-    let f = opened-from z (at + 5) (omega arith) in
-    let g = opened-from z (at + 6) (omega arith) in
-    let k = opened-from z (at + 7) (omega arith) in
-    let l = opened-from z (at + 8) (omega arith) in
-    let m = opened-from z (at + 9) (omega arith) in
-    λ i.
-    record {
-      phase = a i;
-      mbal = b i;
-      bal = c i;
-      inp = d i;
-      offer = e i;
-      top = f i;
-      seenbal = g i;
-      seeninp = k i;
-      written = l i;
-      read = m i;
-    }
+    server-read (openedCells z) at failed (λ i l. opened-from z (at + i) (omega arith) ∙ sym (zeros-at serverLength i))
 
 opened-block : (z : Sizes) (at : ℕ) → base ≤ at → blockIn (openedCells z) at ≡ blank
 opened-block z at h =
-    let a = opened-from z at (omega arith) in
-    let b = opened-from z (at + 1) (omega arith) in
-    let c = opened-from z (at + 2) (omega arith) in
-    λ i. record { mbal = a i; bal = b i; inp = c i }
+    block-read (openedCells z) at blank (λ i l. opened-from z (at + i) (omega arith) ∙ sym (zeros-at blockLength i))
 
 opened-length : (z : Sizes) → Fit z → length (openedCells z) ≡ roomLength z
 unfolding openedCells

@@ -65,20 +65,21 @@ put-at r at xs i h l =
     ∙ ap (λ (j : ℕ). getD (putFrom r at 0 xs) j 0) e
     ∙ from-at xs r at 0 i h (omega arith)
 
--- what was stored at a place is read there
-pub put-server : (r : List ℕ) (at : ℕ) (v : Server) → at + serverLength ≤ length r → serverIn (put r at (serverCells v)) at ≡ v
-put-server r at v h =
-    let xs = serverCells v in
-    let f = ap (λ (j : ℕ). getD (put r at xs) j 0) (sym (add-zero at)) ∙ put-at r at xs 0 (omega arith) h in
-    let a = put-at r at xs 1 (omega arith) h in
-    let b = put-at r at xs 2 (omega arith) h in
-    let c = put-at r at xs 3 (omega arith) h in
-    let d = put-at r at xs 4 (omega arith) h in
-    let e = put-at r at xs 5 (omega arith) h in
-    let g = put-at r at xs 6 (omega arith) h in
-    let k = put-at r at xs 7 (omega arith) h in
-    let l = put-at r at xs 8 (omega arith) h in
-    let m = put-at r at xs 9 (omega arith) h in
+-- the cells from a place on, each of which is that of a record or a block
+pub server-read
+    : (r : List ℕ) (at : ℕ) (v : Server) → ((i : ℕ) → i < serverLength → getD r (at + i) 0 ≡ getD (serverCells v) i 0)
+    → serverIn r at ≡ v
+server-read r at v each =
+    let f = ap (λ (j : ℕ). getD r j 0) (sym (add-zero at)) ∙ each 0 (omega arith) in
+    let a = each 1 (omega arith) in
+    let b = each 2 (omega arith) in
+    let c = each 3 (omega arith) in
+    let d = each 4 (omega arith) in
+    let e = each 5 (omega arith) in
+    let g = each 6 (omega arith) in
+    let k = each 7 (omega arith) in
+    let l = each 8 (omega arith) in
+    let m = each 9 (omega arith) in
     λ i.
     record {
       phase = f i;
@@ -93,13 +94,21 @@ put-server r at v h =
       read = m i;
     }
 
-pub put-block : (r : List ℕ) (at : ℕ) (b : Block) → at + blockLength ≤ length r → blockIn (put r at (blockCells b)) at ≡ b
-put-block r at b h =
-    let xs = blockCells b in
-    let f = ap (λ (j : ℕ). getD (put r at xs) j 0) (sym (add-zero at)) ∙ put-at r at xs 0 (omega arith) h in
-    let a = put-at r at xs 1 (omega arith) h in
-    let c = put-at r at xs 2 (omega arith) h in
+pub block-read
+    : (r : List ℕ) (at : ℕ) (b : Block) → ((i : ℕ) → i < blockLength → getD r (at + i) 0 ≡ getD (blockCells b) i 0)
+    → blockIn r at ≡ b
+block-read r at b each =
+    let f = ap (λ (j : ℕ). getD r j 0) (sym (add-zero at)) ∙ each 0 (omega arith) in
+    let a = each 1 (omega arith) in
+    let c = each 2 (omega arith) in
     λ i. record { mbal = f i; bal = a i; inp = c i }
+
+-- what was stored at a place is read there
+pub put-server : (r : List ℕ) (at : ℕ) (v : Server) → at + serverLength ≤ length r → serverIn (put r at (serverCells v)) at ≡ v
+put-server r at v h = server-read (put r at (serverCells v)) at v (λ i l. put-at r at (serverCells v) i l h)
+
+pub put-block : (r : List ℕ) (at : ℕ) (b : Block) → at + blockLength ≤ length r → blockIn (put r at (blockCells b)) at ≡ b
+put-block r at b h = block-read (put r at (blockCells b)) at b (λ i l. put-at r at (blockCells b) i l h)
 
 -- two rows have the same n cells from a place on
 unfoldable pub Same : List ℕ → List ℕ → ℕ → ℕ → Type 0
