@@ -39,9 +39,6 @@ commands c =
     let args = c .before .before .before .before .before .before .before .before .before .args in
     c .command-fits .ensures ∙ ap (λ (l : List ℕ). commandFits l (args .step)) (c .before .before .limits .ensures)
 
-in-range-requires : tie.Need-in-range-requires
-in-range-requires c κs = search needs
-
 returns : tie.Need-returns
 returns c = sym (refused-3 _ _ (sym (c .before .in-range .ensures) ∙ not-true _ (c .if1 .taken)))
 
@@ -50,17 +47,8 @@ sizes-requires c κs =
     let i = range-says _ (sym (c .before .in-range .ensures) ∙ not-false _ (c .if1 .left)) in
     omega (arith, base-room _ (i .row .fit), i .row .exact)
 
-places-fit-requires : tie.Need-places-fit-requires
-places-fit-requires c κs = search needs
-
 returns-2 : tie.Need-returns-2
 returns-2 c = sym (refused-4 _ _ (ranged (c .before .before)) (sym (places (c .before)) ∙ not-true _ (c .if2 .taken)))
-
-limits-requires : tie.Need-limits-requires
-limits-requires c κs = search needs
-
-command-fits-requires : tie.Need-command-fits-requires
-command-fits-requires c κs = search needs
 
 returns-3 : tie.Need-returns-3
 returns-3 c =
@@ -90,13 +78,13 @@ pub judge-spec : {M : Type 1} → statement M
 judge-spec =
     tie.close
     (tie.spec
-    in-range-requires
+    (λ c κs. search needs)
     returns
     sizes-requires
-    places-fit-requires
+    (λ c κs. search needs)
     returns-2
-    limits-requires
-    command-fits-requires
+    (λ c κs. search needs)
+    (λ c κs. search needs)
     returns-3
     rule-requires
     returns-4)

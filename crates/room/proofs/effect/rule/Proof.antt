@@ -23,23 +23,11 @@ shared-slice-read-off c =
     let at-pre = c .before .before .pre in
     omega (arith, base-room (at-args .z) (at-pre .0 .fit), at-pre .0 .exact)
 
-enum-known-step : tie.Need-enum-known-step
-enum-known-step c = search needs
-
 server-requires : tie.Need-server-requires
 server-requires c κs =
     let pre = c .before .before .before .before .before .pre in
     let a = told _ _ _ (pre .1) (c .before .step .given .1) in
     (pre .0, a .slot, a .server)
-
-offer-requires : tie.Need-offer-requires
-offer-requires c κs = search needs
-
-recorded-requires : tie.Need-recorded-requires
-recorded-requires c κs = search needs
-
-enum-known-step-2 : tie.Need-enum-known-step-2
-enum-known-step-2 c = search needs
 
 server-requires-2 : tie.Need-server-requires-2
 server-requires-2 c κs =
@@ -53,29 +41,11 @@ block-requires c κs =
     let a = told _ _ _ (pre .1) (c .before .before .step2 .given .1) in
     (pre .0, a .slot, a .drive, a .server)
 
-recall-requires : tie.Need-recall-requires
-recall-requires c κs = search needs
-
-recorded-requires-2 : tie.Need-recorded-requires-2
-recorded-requires-2 c κs = search needs
-
-enum-known-step-3 : tie.Need-enum-known-step-3
-enum-known-step-3 c = search needs
-
 server-requires-3 : tie.Need-server-requires-3
 server-requires-3 c κs =
     let pre = c .before .before .before .before .before .pre in
     let a = told _ _ _ (pre .1) (c .before .step3 .given .1) in
     (pre .0, a .slot, a .server)
-
-rejoin-requires : tie.Need-rejoin-requires
-rejoin-requires c κs = search needs
-
-recorded-requires-3 : tie.Need-recorded-requires-3
-recorded-requires-3 c κs = search needs
-
-enum-known-step-4 : tie.Need-enum-known-step-4
-enum-known-step-4 c = search needs
 
 server-requires-4 : tie.Need-server-requires-4
 server-requires-4 c κs =
@@ -83,29 +53,11 @@ server-requires-4 c κs =
     let a = told _ _ _ (pre .1) (c .before .step4 .given .1) in
     (pre .0, a .slot, a .server)
 
-bid-requires : tie.Need-bid-requires
-bid-requires c κs = search needs
-
-recorded-requires-4 : tie.Need-recorded-requires-4
-recorded-requires-4 c κs = search needs
-
-enum-known-step-5 : tie.Need-enum-known-step-5
-enum-known-step-5 c = search needs
-
 server-requires-5 : tie.Need-server-requires-5
 server-requires-5 c κs =
     let pre = c .before .before .before .before .before .pre in
     let a = told _ _ _ (pre .1) (c .before .step5 .given .1) in
     (pre .0, a .slot, a .server)
-
-write-requires : tie.Need-write-requires
-write-requires c κs = search needs
-
-blocked-requires : tie.Need-blocked-requires
-blocked-requires c κs = search needs
-
-enum-known-step-6 : tie.Need-enum-known-step-6
-enum-known-step-6 c = search needs
 
 server-requires-6 : tie.Need-server-requires-6
 server-requires-6 c κs =
@@ -119,47 +71,11 @@ block-requires-2 c κs =
     let a = told _ _ _ (pre .1) (c .before .before .step6 .given .1) in
     (pre .0, a .slot, a .drive, a .other)
 
-read-requires : tie.Need-read-requires
-read-requires c κs = search needs
-
-recorded-requires-5 : tie.Need-recorded-requires-5
-recorded-requires-5 c κs = search needs
-
-enum-known-step-7 : tie.Need-enum-known-step-7
-enum-known-step-7 c = search needs
-
 server-requires-7 : tie.Need-server-requires-7
 server-requires-7 c κs =
     let pre = c .before .before .before .before .before .pre in
     let a = told _ _ _ (pre .1) (c .before .step7 .given .1) in
     (pre .0, a .slot, a .server)
-
-finish-requires : tie.Need-finish-requires
-finish-requires c κs = search needs
-
-recorded-requires-6 : tie.Need-recorded-requires-6
-recorded-requires-6 c κs = search needs
-
-enum-known-step-8 : tie.Need-enum-known-step-8
-enum-known-step-8 c = search needs
-
-enum-known-step-9 : tie.Need-enum-known-step-9
-enum-known-step-9 c = search needs
-
-cast-with-mark : tie.Need-cast-with-mark
-cast-with-mark c = search needs
-
-with-mark-requires : tie.Need-with-mark-requires
-with-mark-requires c κs = search needs
-
-enum-known-step-10 : tie.Need-enum-known-step-10
-enum-known-step-10 c = search needs
-
-cast-without-mark : tie.Need-cast-without-mark
-cast-without-mark c = search needs
-
-without-mark-requires : tie.Need-without-mark-requires
-without-mark-requires c κs = search needs
 
 returns : tie.Need-returns
 unfolding effectOf ruleOf
@@ -216,43 +132,43 @@ rule-spec =
     tie.close
     (tie.spec
     shared-slice-read-off
-    enum-known-step
+    (λ c. search needs)
     server-requires
-    offer-requires
-    recorded-requires
-    enum-known-step-2
+    (λ c κs. search needs)
+    (λ c κs. search needs)
+    (λ c. search needs)
     server-requires-2
     block-requires
-    recall-requires
-    recorded-requires-2
-    enum-known-step-3
+    (λ c κs. search needs)
+    (λ c κs. search needs)
+    (λ c. search needs)
     server-requires-3
-    rejoin-requires
-    recorded-requires-3
-    enum-known-step-4
+    (λ c κs. search needs)
+    (λ c κs. search needs)
+    (λ c. search needs)
     server-requires-4
-    bid-requires
-    recorded-requires-4
-    enum-known-step-5
+    (λ c κs. search needs)
+    (λ c κs. search needs)
+    (λ c. search needs)
     server-requires-5
-    write-requires
-    blocked-requires
-    enum-known-step-6
+    (λ c κs. search needs)
+    (λ c κs. search needs)
+    (λ c. search needs)
     server-requires-6
     block-requires-2
-    read-requires
-    recorded-requires-5
-    enum-known-step-7
+    (λ c κs. search needs)
+    (λ c κs. search needs)
+    (λ c. search needs)
     server-requires-7
-    finish-requires
-    recorded-requires-6
-    enum-known-step-8
-    enum-known-step-9
-    cast-with-mark
-    with-mark-requires
-    enum-known-step-10
-    cast-without-mark
-    without-mark-requires
+    (λ c κs. search needs)
+    (λ c κs. search needs)
+    (λ c. search needs)
+    (λ c. search needs)
+    (λ c. search needs)
+    (λ c κs. search needs)
+    (λ c. search needs)
+    (λ c. search needs)
+    (λ c κs. search needs)
     returns
     returns-2
     returns-3

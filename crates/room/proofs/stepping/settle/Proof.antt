@@ -12,12 +12,6 @@ use Rattle.layout.proofs.RoomLaws.{server-row}
 use Rattle.room.specs.Ready.{Ready}
 use Rattle.room.specs.Step.{settled}
 
-enum-told : tie.Need-enum-told
-enum-told c = search needs
-
-enum-known-e : tie.Need-enum-known-e
-enum-known-e c = search needs
-
 sizes-requires : tie.Need-sizes-requires
 sizes-requires c κs =
     let at-args = c .before .before .before .before .before .args in
@@ -36,9 +30,6 @@ store-server-requires c κs =
     let s : ℕ = at-e .given .0 .0 in
     subst⁻¹ (λ (z : Sizes). Row z (at-args .room .now) × (s < z .slots) × (p < z .servers)) (at-sizes .ensures) (i .row, i .slot, i .server)
 
-enum-known-e-2 : tie.Need-enum-known-e-2
-enum-known-e-2 c = search needs
-
 sizes-requires-2 : tie.Need-sizes-requires-2
 sizes-requires-2 c κs =
     let at-args = c .before .before .before .before .before .args in
@@ -56,9 +47,6 @@ store-server-requires-2 c κs =
     let p : ℕ = at-e2 .given .0 .1 .1 .0 in
     let s : ℕ = at-e2 .given .0 .0 in
     subst⁻¹ (λ (z : Sizes). Row z (at-args .room .now) × (s < z .slots) × (p < z .servers)) (at-sizes2 .ensures) (i .0 .row, i .0 .slot, i .0 .server)
-
-own-block-requires : tie.Need-own-block-requires
-own-block-requires c κs = search needs
 
 store-block-requires : tie.Need-store-block-requires
 store-block-requires c κs =
@@ -80,9 +68,6 @@ store-block-requires c κs =
       places .3,
     )
 
-enum-known-e-3 : tie.Need-enum-known-e-3
-enum-known-e-3 c = search needs
-
 sizes-requires-3 : tie.Need-sizes-requires-3
 sizes-requires-3 c κs =
     let at-args = c .before .before .before .before .before .args in
@@ -100,9 +85,6 @@ fail-requires c κs =
     let p : ℕ = at-e3 .given .0 .0 in
     subst⁻¹ (λ (z : Sizes). Row z (at-args .room .now) × (p < z .servers)) (at-sizes3 .ensures) i
 
-enum-known-e-4 : tie.Need-enum-known-e-4
-enum-known-e-4 c = search needs
-
 slice-write-room : tie.Need-slice-write-room
 slice-write-room c =
     let at-args = c .before .before .before .before .args in
@@ -116,9 +98,6 @@ returns c =
     let at-enum-told = c .enum-told in
     rw (at-enum-told .given .1)
 
-same-length : tie.Need-same-length
-same-length c = search needs
-
 returns-2 : tie.Need-returns-2
 unfolding settled
 returns-2 c =
@@ -126,9 +105,6 @@ returns-2 c =
     let at-store-server = c .before .before .store-server in
     let at-sizes = c .before .before .before .before .sizes in
     rw (at-e .given .1, at-store-server .ensures, at-sizes .ensures)
-
-same-length-2 : tie.Need-same-length-2
-same-length-2 c = search needs
 
 returns-3 : tie.Need-returns-3
 unfolding settled
@@ -140,9 +116,6 @@ returns-3 c =
     let at-sizes2 = c .before .before .before .before .before .before .before .before .before .sizes2 in
     rw (at-e2 .given .1, at-store-block .ensures, at-own-block .ensures, at-store-server2 .ensures, at-sizes2 .ensures)
 
-same-length-3 : tie.Need-same-length-3
-same-length-3 c = search needs
-
 returns-4 : tie.Need-returns-4
 unfolding settled
 returns-4 c =
@@ -150,9 +123,6 @@ returns-4 c =
     let at-fail = c .before .before .fail in
     let at-sizes3 = c .before .before .before .before .sizes3 in
     rw (at-e3 .given .1, at-fail .ensures, at-sizes3 .ensures)
-
-same-length-4 : tie.Need-same-length-4
-same-length-4 c = search needs
 
 returns-5 : tie.Need-returns-5
 unfolding settled
@@ -164,26 +134,26 @@ pub settle-spec : {M : Type 1} → statement M
 settle-spec =
     tie.close
     (tie.spec
-    enum-told
-    enum-known-e
+    (λ c. search needs)
+    (λ c. search needs)
     sizes-requires
     store-server-requires
-    enum-known-e-2
+    (λ c. search needs)
     sizes-requires-2
     store-server-requires-2
-    own-block-requires
+    (λ c κs. search needs)
     store-block-requires
-    enum-known-e-3
+    (λ c. search needs)
     sizes-requires-3
     fail-requires
-    enum-known-e-4
+    (λ c. search needs)
     slice-write-room
     returns
-    same-length
+    (λ c. search needs)
     returns-2
-    same-length-2
+    (λ c. search needs)
     returns-3
-    same-length-3
+    (λ c. search needs)
     returns-4
-    same-length-4
+    (λ c. search needs)
     returns-5)

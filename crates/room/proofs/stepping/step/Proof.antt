@@ -9,21 +9,6 @@ use Rattle.room.specs.Ready.{Ready}
 use Rattle.room.specs.Step.{settled, answered, stepped}
 use Rattle.room.proofs.ReadyLaws.{judged-ready}
 
-judge-requires : tie.Need-judge-requires
-judge-requires c κs = search needs
-
-settle-requires : tie.Need-settle-requires
-settle-requires c κs =
-    let at-args = c .before .before .before .before .args in
-    let at-judge = c .before .judge in
-    subst⁻¹ (Ready (at-args .room .now)) (at-judge .ensures) (judged-ready (at-args .room .now) (at-args .step))
-
-answer-requires : tie.Need-answer-requires
-answer-requires c κs = search needs
-
-same-length : tie.Need-same-length
-same-length c = search needs
-
 returns : tie.Need-returns
 unfolding answered stepped
 returns c =
@@ -36,4 +21,13 @@ returns c =
     )
 
 pub step-spec : {M : Type 1} → statement M
-step-spec = tie.close (tie.spec judge-requires settle-requires answer-requires same-length returns)
+step-spec =
+    tie.close
+    (tie.spec
+    (λ c κs. search needs)
+    (λ c κs.
+    let args = c .before .before .before .before .args in
+    subst⁻¹ (Ready (args .room .now)) (c .before .judge .ensures) (judged-ready (args .room .now) (args .step)))
+    (λ c κs. search needs)
+    (λ c. search needs)
+    returns)
