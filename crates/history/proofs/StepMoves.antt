@@ -9,7 +9,7 @@ use Rattle.state.specs.declared.Sizes.{Sizes}
 use Rattle.state.specs.declared.Step.{Step}
 use Rattle.state.specs.declared.Step.the-variants.{Offer, Recall, Rejoin, Bid, Write, Read, Finish, Fail, DriveOff, DriveOn}
 use Rattle.state.specs.Answers.{numberOf}
-use Rattle.state.specs.View.{Stores, Alone, View, AtSlot, viewOf, viewServer}
+use Rattle.state.specs.View.{Stores, Alone, View, AtSlot, AtServer, AtDrive, viewOf}
 use Rattle.synod.specs.declared.Ruling.{Ruling}
 use Rattle.synod.specs.declared.Ruling.the-variants.{Refused, Accepted}
 use Rattle.synod.specs.Arguments.{placesFit}
@@ -36,6 +36,12 @@ committed-is (answer.Outbid b) e = absurd (true≢false (sym e))
 committed-is (answer.Chosen c) e = absurd (true≢false (sym e))
 committed-is (answer.Committed c) e = refl
 committed-is (answer.Refused n) e = absurd (true≢false (sym e))
+
+-- the server that acts; 0 where there is none
+abbrev viewServer : View → ℕ
+viewServer (AtSlot p s k) = p
+viewServer (AtServer p) = p
+viewServer (AtDrive d on) = 0
 
 -- a view that shows only by a committed answer of its server
 record Listener (w : View) : Type 0 where

@@ -1,6 +1,6 @@
 -- The places of a room (SPEC, "The room in memory"). The literals of the layout stand here and in Cells alone.
 use Prim.Native.Nat.{ℕ, _+_, _*_, _≤_}
-use mathlib.Core.Bool.{Bool, _&&_}
+use mathlib.Core.Bool.{Bool, _&&_, cond}
 use mathlib.Core.List.{List}
 use mathlib.Core.Path.{_≡_}
 use lib.ListN.{length}
@@ -56,6 +56,10 @@ sizesFit z =
     leb 1 (z .servers) && leb (z .servers) 4
     && leb 1 (z .drives) && leb (z .drives) 7
     && leb 1 (z .slots) && leb (z .slots) 16
+
+-- the cells that a room of these sizes has; none where they do not fit
+abbrev pub lengthOf : Sizes → ℕ
+lengthOf z = cond (sizesFit z) (roomLength z) 0
 
 -- the sizes as bounds
 pub record Fit (z : Sizes) : Type 0 where

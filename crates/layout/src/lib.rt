@@ -2,7 +2,7 @@
 ghost use mathlib.Core.Path.{_≡_};
 ghost use Prim.Native.Nat.{_+_, _<_, _≤_};
 ghost use lib.ListN.{length, replicate};
-ghost use Rattle.layout.specs.Places.{base, serverLength, blockLength, Fit, Row, sizesFit, slotLength, roomLength, serverAt, blockAt};
+ghost use Rattle.layout.specs.Places.{base, serverLength, blockLength, Fit, Row, longestRoom, sizesFit, slotLength, roomLength, lengthOf, serverAt, blockAt};
 ghost use Rattle.layout.specs.Cells.{sizesOf, limitsOf, serverIn, blockIn, serverOf, blockOf, putServer, putBlock};
 use state::Block;
 use state::Server;
@@ -17,6 +17,9 @@ pub const BASE: usize = 4;
 pub const SERVER_CELLS: usize = 10;
 
 pub const BLOCK_CELLS: usize = 3;
+
+// The cells of the largest room.
+pub const LONGEST_ROOM: usize = BASE + 16 * (SERVER_CELLS * 4 + BLOCK_CELLS * 28);
 
 // Whether the sizes are those of a room.
 pub fn sizes_fit(z: Sizes) -> bool
@@ -61,6 +64,16 @@ pub fn room_length(z: Sizes) -> usize
     ensures { λ r. ⌜ r ≡ roomLength z ⌝ }
 {
     BASE + (z.slots as usize) * slot_length(z)
+}
+
+// The cells of a room of these sizes, and 0 where they do not fit.
+pub fn length_of(z: Sizes) -> usize
+    ensures { λ r. ⌜ (r ≡ lengthOf z) × (r ≤ longestRoom) ⌝ }
+{
+    if sizes_fit(z) {
+        return room_length(z);
+    }
+    0
 }
 
 // Where the record of server p in slot s begins.

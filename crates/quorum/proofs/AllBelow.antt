@@ -1,6 +1,6 @@
 -- Laws of allBelow, by which a loop over the numbers below n is proved: it begins, goes on, stops, and is read at one of them.
 use Prim.Native.Nat.{ℕ, zero, suc, _+_, _<_}
-use mathlib.Core.Path.{_≡_, refl, _∙_, sym, ap, ap₂}
+use mathlib.Core.Path.{_≡_, refl, _∙_, sym, ap}
 use mathlib.Core.Bool.{Bool, true, false, _&&_, true≢false}
 use native.Mathlib.Omega.{arith}
 use native.Mathlib.Numerals.{add-one}
@@ -36,8 +36,3 @@ all-intro (suc n) f h =
 pub all-fails : (n : ℕ) (f : ℕ → Bool) (i : ℕ) → i < n → f i ≡ false → allBelow n f ≡ false
 all-fails n f i l e =
     by-test (allBelow n f) (λ h. absurd (true≢false (sym (all-at n f h i l) ∙ e))) (λ h. h)
-
-pub all-same : (n : ℕ) (f g : ℕ → Bool) → ((i : ℕ) → i < n → f i ≡ g i) → allBelow n f ≡ allBelow n g
-all-same zero f g h = all-none f ∙ sym (all-none g)
-all-same (suc n) f g h =
-    all-suc n f ∙ ap₂ _&&_ (all-same n f g (λ i l. h i (omega arith))) (h n (omega arith)) ∙ sym (all-suc n g)

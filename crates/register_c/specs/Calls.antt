@@ -1,14 +1,12 @@
 -- The calls of C that are not one call of the register: the length of a room, a step given by its record, and a record
 -- written from a step's fields.
 use Prim.Native.Nat.{ℕ}
-use mathlib.Core.Bool.{Bool, _&&_, cond}
+use mathlib.Core.Bool.{Bool, _&&_}
 use mathlib.Core.List.{List}
 use lib.Dec.{leb}
 use Rattle.checks.specs.Checks.{Must, outcome}
-use Rattle.state.specs.declared.Sizes.{Sizes}
 use Rattle.state.specs.declared.Answer.{Answer}
 use Rattle.state.specs.declared.Answer.the-variants as answer
-use Rattle.layout.specs.Places.{sizesFit, roomLength}
 use Rattle.record.specs.declared.Reading.{Reading}
 use Rattle.record.specs.declared.Reading.the-variants as reading
 use Rattle.record.specs.declared.Writing.{Writing}
@@ -17,10 +15,6 @@ use Rattle.record.specs.declared.fields.Fields.{Fields}
 use Rattle.record.specs.Fields.{stepOf}
 use Rattle.record.specs.Write.{recordOf, writeChecks, writtenBy}
 use Rattle.room.specs.Step.{answered, stepped}
-
--- the cells of a room, 0 where the sizes do not fit
-abbrev pub lengthOf : Sizes → ℕ
-lengthOf z = cond (sizesFit z) (roomLength z) 0
 
 -- a record that cannot be read is refused with the number that reading gives
 abbrev pub recordAnswered : List ℕ → Reading → Answer

@@ -4,12 +4,13 @@
 // answered.
 ghost use mathlib.Core.Path.{_≡_};
 ghost use Rattle.state.specs.Sizes.{sizes};
+ghost use Rattle.layout.specs.Places.{lengthOf};
 ghost use Rattle.room.specs.Open.{openRefusal, opening, opened};
 ghost use Rattle.record.specs.Fields.{fields};
 ghost use Rattle.record.specs.Read.{readingOf};
 ghost use Rattle.catalogue.specs.Call.{catalogueOf, catalogueCells};
 ghost use Rattle.register_c.specs.Packing.{packed, packedAnswer, packedListing, packedReading, packedWriting};
-ghost use Rattle.register_c.specs.Calls.{lengthOf, recordAnswered, recordStepped, kindWriting, kindWritten};
+ghost use Rattle.register_c.specs.Calls.{recordAnswered, recordStepped, kindWriting, kindWritten};
 use record::Fields;
 use register::Listing;
 use register::Opening;
@@ -31,10 +32,7 @@ pub extern "C" fn register_length(servers: u32, drives: u32, slots: u32) -> u32
         drives,
         slots,
     };
-    if !layout::sizes_fit(z) {
-        return 0;
-    }
-    layout::room_length(z) as u32
+    layout::length_of(z) as u32
 }
 
 // Makes the row a new room: 0, or the refusal's number.

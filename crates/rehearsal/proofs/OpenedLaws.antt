@@ -8,7 +8,7 @@ use lib.ListN.{length, drop}
 use borrow.Author.Tests.{eq-eqb, lt-ltb, le-ltb}
 use Rattle.lemmas.proofs.Tests.{by-test}
 use Rattle.state.specs.declared.Sizes.{Sizes}
-use Rattle.layout.specs.Places.{sizesFit, roomLength}
+use Rattle.layout.specs.Places.{sizesFit, roomLength, lengthOf}
 use Rattle.layout.specs.Cells.{sizesOf}
 use Rattle.layout.proofs.PlaceLaws.{fit-of}
 use Rattle.room.specs.declared.opening.Opening.the-variants.{Opened, Refused}
@@ -19,7 +19,7 @@ use Rattle.transcript.specs.Lines.{lineMax, openLine, Printed}
 use Rattle.transcript.proofs.LineLaws.{open-max}
 use Rattle.rehearsal.specs.Script.{Script, script}
 use Rattle.rehearsal.specs.Rehearsal.{recordLines, serverLines, runText, inputMax, rehearsal}
-use Rattle.rehearsal.specs.Buffer.{Holds, lengthFor, textMax, Taken, Added}
+use Rattle.rehearsal.specs.Buffer.{Holds, textMax, Taken, Added}
 use Rattle.rehearsal.proofs.BufferLaws.{added, holds}
 
 module _ (z : Sizes) (row : List ℕ) where
@@ -27,7 +27,7 @@ module _ (z : Sizes) (row : List ℕ) where
   opened-fits e = accepted z row (ap openRefusal e) .fits
 
   -- the only refusal is that of the sizes
-  refused-is : {n : ℕ} → length row ≡ lengthFor z → opening z row ≡ Refused n → (sizesFit z ≡ false) × (1 ≡ n)
+  refused-is : {n : ℕ} → length row ≡ lengthOf z → opening z row ≡ Refused n → (sizesFit z ≡ false) × (1 ≡ n)
   refused-is {n} exact e =
       by-test (sizesFit z)
       (λ a.
@@ -57,7 +57,7 @@ module _ (z : Sizes) (row : List ℕ) where
       ∙ sym (ap (λ (b : Bool). cond b whole (openLine 1)) fits))
 
   pub refused-text
-      : {l m : List ℕ} {n j : ℕ} (s : Script) → length row ≡ lengthFor z → opening z row ≡ Refused n → length l ≡ textMax
+      : {l m : List ℕ} {n j : ℕ} (s : Script) → length row ≡ lengthOf z → opening z row ≡ Refused n → length l ≡ textMax
       → length m ≡ textMax → Printed l 0 (openLine n) m j → Holds m j (runText z s)
   unfolding runText
   refused-text {l} {m} {n} {j} s exact e size kept p =

@@ -1,11 +1,8 @@
 -- What the functions leave in lent bytes and cells.
 use Prim.Native.Nat.{ℕ, _+_, _*_, _≤_}
 use mathlib.Core.Path.{_≡_}
-use mathlib.Core.Bool.{cond}
 use mathlib.Core.List.{List, _++_}
 use lib.ListN.{length, take, drop}
-use Rattle.state.specs.declared.Sizes.{Sizes}
-use Rattle.layout.specs.Places.{sizesFit, roomLength}
 use Rattle.history.specs.Run.{ran}
 use Rattle.transcript.specs.Lines.{lineMax}
 use Rattle.rehearsal.specs.Script.{script}
@@ -22,14 +19,6 @@ pub record Holds (buffer : List ℕ) (n : ℕ) (text : List ℕ) : Type 0 where
 pub record Readable (input : List ℕ) : Type 0 where
   pub sized : 3 ≤ length input
   pub short : length input ≤ inputMax
-
--- the cells of the largest room
-abbrev pub cellsMax : ℕ
-cellsMax = 1988
-
--- the cells that a room of these sizes has; none where they do not fit
-abbrev pub lengthFor : Sizes → ℕ
-lengthFor z = cond (sizesFit z) (roomLength z) 0
 
 -- the most lines of records: one for each two bytes, and one for a byte that is left
 abbrev pub recordMax : ℕ

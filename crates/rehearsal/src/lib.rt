@@ -3,12 +3,11 @@ ghost use mathlib.Core.Path.{_≡_};
 ghost use Prim.Native.Nat.{_+_, _*_, _≤_};
 ghost use lib.ListN.{length, drop};
 ghost use Rattle.transcript.specs.Lines.{lineMax};
+ghost use Rattle.layout.specs.Places.{longestRoom, lengthOf};
 ghost use Rattle.layout.specs.Cells.{sizesOf};
 ghost use Rattle.rehearsal.specs.Script.{script};
 ghost use Rattle.rehearsal.specs.Rehearsal.{lineOf, serverLines, runText, rehearsal};
-ghost use Rattle.rehearsal.specs.Buffer.{Holds, Readable, cellsMax, lengthFor, textMax, Taken, Added};
-use layout::room_length;
-use layout::sizes_fit;
+ghost use Rattle.rehearsal.specs.Buffer.{Holds, Readable, textMax, Taken, Added};
 use register::Answer;
 use register::Opening;
 use register::Reading;
@@ -17,7 +16,7 @@ use state::Sizes;
 // The most bytes that an input may have.
 pub const INPUT_MAX: usize = 65536;
 // The cells of the largest room.
-pub const CELLS_MAX: usize = 1988;
+pub const CELLS_MAX: usize = layout::LONGEST_ROOM;
 // The lines of records: one for each two bytes at most, and one for a byte that is left.
 const RECORDS_MAX: usize = 32767;
 // The longest line of a record: an index of five digits, " committed ", a number of ten digits, and the line's end.
@@ -40,17 +39,17 @@ pub fn rehearse(input: &[u8], cells: &mut [u32; CELLS_MAX], out: &mut [u8; TEXT_
 
 // The run of an input that holds sizes: the room is the part of cells that is exactly as long.
 fn run(input: &[u8], cells: &mut [u32], out: &mut [u8]) -> usize
-    requires { ⌜ Readable (now input) × (length (now cells) ≡ cellsMax) × (length (now out) ≡ textMax) ⌝ }
+    requires { ⌜ Readable (now input) × (length (now cells) ≡ longestRoom) × (length (now out) ≡ textMax) ⌝ }
     ensures { λ r. ⌜ Holds (now (out .exit)) r (runText (sizesOf (now (input .entry))) (script (drop 3 (now (input .entry))))) ⌝ }
 {
     let z = sizes(input);
-    let length = length_of(z);
+    let length = layout::length_of(z);
     play(z, input, &mut cells[..length], out)
 }
 
 // Opens the room, then prints the lines of the records and of the servers.
 fn play(z: Sizes, input: &[u8], room: &mut [u32], out: &mut [u8]) -> usize
-    requires { ⌜ Readable (now input) × (length (now room) ≡ lengthFor z) × (length (now out) ≡ textMax) ⌝ }
+    requires { ⌜ Readable (now input) × (length (now room) ≡ lengthOf z) × (length (now out) ≡ textMax) ⌝ }
     ensures { λ r. ⌜ Holds (now (out .exit)) r (runText z (script (drop 3 (now (input .entry))))) ⌝ }
 {
     match register::open(room, z.servers, z.drives, z.slots) {
@@ -60,16 +59,6 @@ fn play(z: Sizes, input: &[u8], room: &mut [u32], out: &mut [u8]) -> usize
         }
         Opening::Refused(number) => transcript::open_line(out, 0, number),
     }
-}
-
-// The length of a room of these sizes, and 0 where they do not fit.
-fn length_of(z: Sizes) -> usize
-    ensures { λ r. ⌜ (r ≡ lengthFor z) × (r ≤ cellsMax) ⌝ }
-{
-    if sizes_fit(z) {
-        return room_length(z);
-    }
-    0
 }
 
 // The sizes that an input begins with.

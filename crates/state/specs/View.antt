@@ -29,12 +29,7 @@ viewOf (Fail p) = AtServer p
 viewOf (DriveOff d) = AtDrive d false
 viewOf (DriveOn d) = AtDrive d true
 
--- the server that acts, and its slot; 0 where there is none
-abbrev pub viewServer : View → ℕ
-viewServer (AtSlot p s k) = p
-viewServer (AtServer p) = p
-viewServer (AtDrive d on) = 0
-
+-- the slot that it names; 0 where there is none
 abbrev pub viewSlot : View → ℕ
 viewSlot (AtSlot p s k) = s
 viewSlot (AtServer p) = 0

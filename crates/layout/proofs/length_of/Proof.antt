@@ -2,11 +2,11 @@
 use native.Mathlib.Omega.{arith}
 use mathlib.Core.Path.{_≡_, _∙_, sym, ap}
 use mathlib.Core.Bool.{Bool, true, false, cond}
 use Rattle.layout.specs.Places.{sizesFit, roomLength}
 use Rattle.layout.proofs.PlaceLaws.{fit-of, room-bound}
 use borrow.Author.Needs.{needs}
-use Rattle.rehearsal.proofs.length_of.Statement.{statement}
-use Rattle.rehearsal.proofs.length_of.Tie as tie
+use Rattle.layout.proofs.length_of.Statement.{statement}
+use Rattle.layout.proofs.length_of.Tie as tie
 
 sizes-fit-requires : tie.Need-sizes-fit-requires
 sizes-fit-requires c κs = search needs
