@@ -1,6 +1,8 @@
--- Bool tests taken apart: by cases that keep the equation, and by the parts of an `&&`.
-use mathlib.Core.Path.{_≡_, refl, sym}
-use mathlib.Core.Bool.{Bool, true, false, _&&_, _||_, true≢false}
+-- Bool tests taken apart: by cases that keep the equation, by the parts of an `&&` or an `||`, and from the code.
+use mathlib.Core.Path.{_≡_, refl, _∙_, sym}
+use mathlib.Core.Bool.{Bool, true, false, not, _&&_, _||_, true≢false}
+use mathlib.Core.Logic.{_⊎_, inl, inr}
+use borrow.Author.Tests.{not-true, not-false}
 
 -- goes by the value of b and keeps the equation
 pub by-test {ℓ} : {X : Type ℓ} (b : Bool) → (b ≡ true → X) → (b ≡ false → X) → X
@@ -33,6 +35,21 @@ pub or-right : (a b : Bool) → b ≡ true → (a || b) ≡ true
 or-right true b e = refl
 or-right false b e = e
 
+pub or-either : (a b : Bool) → (a || b) ≡ true → (a ≡ true) ⊎ (b ≡ true)
+or-either true b e = inl refl
+or-either false b e = inr e
+
+pub neither-left : (a b : Bool) → (a || b) ≡ false → a ≡ false
+neither-left true b e = e
+neither-left false b e = refl
+
+pub neither-right : (a b : Bool) → (a || b) ≡ false → b ≡ false
+neither-right true b e = absurd (true≢false e)
+neither-right false b e = e
+
+pub clash : {A : Type 0} (b : Bool) → b ≡ true → b ≡ false → A
+clash b t f = absurd (true≢false (sym t ∙ f))
+
 -- how a chain of tests ends, and how it goes on
 pub none-left : (a b : Bool) → a ≡ false → (a && b) ≡ false
 none-left false b e = refl
@@ -45,3 +62,11 @@ none-right true b e = e
 pub goes-on : (a b x : Bool) → a ≡ true → x ≡ b → x ≡ (a && b)
 goes-on true b x e f = f
 goes-on false b x e f = absurd (true≢false (sym e))
+
+-- what `if !answer { return .. }` says of a condition, where a callee's answer is that condition: the code went on
+pub holds : {answer b : Bool} → answer ≡ b → not answer ≡ false → b ≡ true
+holds e left = sym e ∙ not-false _ left
+
+-- the code returned
+pub lacks : {answer b : Bool} → answer ≡ b → not answer ≡ true → b ≡ false
+lacks e taken = sym e ∙ not-true _ taken

@@ -17,7 +17,7 @@ use Rattle.record.specs.Map.{widths, recordLength, unknown, malformed, a
 use Rattle.record.specs.Read.{readChecks, readingOf, valuesAt}
 use Rattle.record.specs.declared.Reading.the-variants.{Decoded, Refused}
 use Rattle.record.specs.declared.Reading.{Reading}
-use Rattle.record.proofs.Tests.{or-false-left, or-false-right}
+use Rattle.lemmas.proofs.Tests.{neither-left, neither-right}
 use Rattle.record.proofs.Marks.{asked-length}
 use Rattle.record.proofs.Steps.{kind-length}
 
@@ -49,8 +49,8 @@ accepted bytes {step} {used} =
     record {
       small = ltb-true m 32 small;
       two = leb-true 2 (length bytes) two;
-      known = or-false-left (unknown kind) (asksMore widths m (maskOf kind)) (not-true _ fair);
-      asks = or-false-right (unknown kind) (asksMore widths m (maskOf kind)) (not-true _ fair);
+      known = neither-left (unknown kind) (asksMore widths m (maskOf kind)) (not-true _ fair);
+      asks = neither-right (unknown kind) (asksMore widths m (maskOf kind)) (not-true _ fair);
       enough = leb-true (recordLength m) (length bytes) enough;
       none-zero = not-true _ none-zero;
       step-is = cc;

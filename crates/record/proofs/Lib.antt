@@ -5,8 +5,6 @@ pub mod Bytes
 pub mod Five
 -- the map that is written: its size, and the length that it asks for
 pub mod MapLaws
--- a test of two parts
-pub mod Tests
 -- maps that mark exactly the fields that are not 0
 pub mod Marks
 -- the ten kinds

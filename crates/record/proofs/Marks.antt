@@ -9,12 +9,11 @@ use borrow.Author.Tests.{le-ltb, ltb-false, eqb-true, eqb-false, ne-eqb}
 use lib.Dec.{eqb, ltb, lit<}
 use lib.ListN.{length, take, drop, length-take, length-drop}
 use lib.Seq.{length-take-le, take-at, drop-at, drop-drop, take-add}
-use Rattle.lemmas.proofs.Tests.{by-test}
+use Rattle.lemmas.proofs.Tests.{by-test, neither-left, neither-right}
 use Rattle.record.specs.Map.{bitOf, mapOf, fieldsLength, asksMore, zeroAmong}
 use Rattle.record.specs.Read.{lowNumber, valuesAt, Bytes}
 use Rattle.record.specs.Write.{lowFirst, fieldBytes}
 use Rattle.record.proofs.Bytes.{low-length, low-back, low-again, low-bound, low-none, bytes-take, bytes-drop}
-use Rattle.record.proofs.Tests.{or-false-left, or-false-right}
 use Rattle.record.proofs.MapLaws.{bit-small}
 
 -- a field's bit stands exactly where the field is not 0
@@ -57,8 +56,8 @@ unfolding asksMore fieldsLength
 asked-length [] m mask a = omega arith
 asked-length (w ∷ ws) m mask a =
     let more = asksMore ws (m / 2) (mask / 2) in
-    let within = ltb-false (mask % 2) (m % 2) (or-false-left (ltb (mask % 2) (m % 2)) more a) in
-    let beyond = or-false-right (ltb (mask % 2) (m % 2)) more a in
+    let within = ltb-false (mask % 2) (m % 2) (neither-left (ltb (mask % 2) (m % 2)) more a) in
+    let beyond = neither-right (ltb (mask % 2) (m % 2)) more a in
     omega (arith, mul-le-mul-right w within, asked-length ws (m / 2) (mask / 2) beyond)
 
 -- ---- what is written
@@ -161,8 +160,8 @@ values-mark [] m s at e = tt
 values-mark (w ∷ ws) m s at e =
     let v = lowNumber (take (m % 2 * w) (drop at s)) in
     let others = valuesAt ws (m / 2) s (at + m % 2 * w) in
-    let here = or-false-left (eqb (m % 2) 1 && eqb v 0) (zeroAmong (m / 2) others) e in
-    let beyond = or-false-right (eqb (m % 2) 1 && eqb v 0) (zeroAmong (m / 2) others) e in
+    let here = neither-left (eqb (m % 2) 1 && eqb v 0) (zeroAmong (m / 2) others) e in
+    let beyond = neither-right (eqb (m % 2) 1 && eqb v 0) (zeroAmong (m / 2) others) e in
     (field-mark w (m % 2) (drop at s) (mod-lt m (lit< tt)) here, values-mark ws (m / 2) s (at + m % 2 * w) beyond)
 
 pub values-fit : (ws : List ℕ) (m : ℕ) (s : List ℕ) (at : ℕ) → Bytes s → Fit ws (valuesAt ws m s at)
@@ -181,8 +180,8 @@ map-again [] (v ∷ vs) m mask e h k a = absurd (omega arith)
 map-again (w ∷ ws) [] m mask e h k a = absurd (omega arith)
 map-again (w ∷ ws) (v ∷ vs) m mask e h k a =
     let more = asksMore ws (m / 2) (mask / 2) in
-    let within = ltb-false (mask % 2) (m % 2) (or-false-left (ltb (mask % 2) (m % 2)) more a) in
-    let beyond = or-false-right (ltb (mask % 2) (m % 2)) more a in
+    let within = ltb-false (mask % 2) (m % 2) (neither-left (ltb (mask % 2) (m % 2)) more a) in
+    let beyond = neither-right (ltb (mask % 2) (m % 2)) more a in
     let small : m / 2 < 2 ^ length vs = omega (arith, two-pow-succ (length vs)) in
     omega (
       arith,
@@ -198,8 +197,8 @@ values-keep [] (v ∷ vs) m mask e k a = absurd (omega arith)
 values-keep (w ∷ ws) [] m mask e k a = tt
 values-keep (w ∷ ws) (v ∷ vs) m mask e k a =
     let more = asksMore ws (m / 2) (mask / 2) in
-    let within = ltb-false (mask % 2) (m % 2) (or-false-left (ltb (mask % 2) (m % 2)) more a) in
-    let beyond = or-false-right (ltb (mask % 2) (m % 2)) more a in (
+    let within = ltb-false (mask % 2) (m % 2) (neither-left (ltb (mask % 2) (m % 2)) more a) in
+    let beyond = neither-right (ltb (mask % 2) (m % 2)) more a in (
       (λ lacks. by-zero v (λ z. z) (λ ne. let one = k .0 ∙ bit-is-has 1 v ne in absurd (omega arith))),
       values-keep ws vs (m / 2) (mask / 2) (omega arith) (k .1) beyond,
     )

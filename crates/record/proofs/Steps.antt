@@ -6,12 +6,11 @@ use mathlib.Core.Path.{_≡_, refl, sym, subst}
 use native.Mathlib.Omega.{arith}
 use borrow.Author.Tests.{ltb-false, eqb-true, eqb-false}
 use lib.Dec.{eqb, ltb, lit≤}
-use Rattle.lemmas.proofs.Tests.{by-test}
+use Rattle.lemmas.proofs.Tests.{by-test, neither-left, neither-right}
 use Rattle.state.specs.declared.Step.the-variants.{Offer, Recall, Rejoin, Bid, Write, Read, Finish, Fail, DriveOff, DriveOn}
 use Rattle.state.specs.declared.Step.{Step}
 use Rattle.record.specs.Fields.{maskOf, fields, fieldsOf, stepOf, valuesOf, StepFits}
 use Rattle.record.specs.Map.{widths, unknown, fieldsLength, recordLength}
-use Rattle.record.proofs.Tests.{or-false-left, or-false-right}
 use Rattle.record.proofs.Marks.{Keeps, Fit}
 
 pub step-fields : (step : Step) → stepOf (fieldsOf step) ≡ step
@@ -65,8 +64,8 @@ up-to P k n here below h =
 each-kind : (P : ℕ → Type 0) → P 1 → P 2 → P 3 → P 4 → P 5 → P 6 → P 7 → P 8 → P 9 → P 10
     → (kind : ℕ) → unknown kind ≡ false → P kind
 each-kind P a b c d e f g h i j k known =
-    let some = eqb-false k 0 (or-false-left (eqb k 0) (ltb 10 k) known) in
-    let most = ltb-false 10 k (or-false-right (eqb k 0) (ltb 10 k) known) in
+    let some = eqb-false k 0 (neither-left (eqb k 0) (ltb 10 k) known) in
+    let most = ltb-false 10 k (neither-right (eqb k 0) (ltb 10 k) known) in
     let none : k ≤ 0 → P k = λ z. absurd (omega arith) in
     let to-5 = up-to P k 4 e (up-to P k 3 d (up-to P k 2 c (up-to P k 1 b (up-to P k 0 a none)))) in
     up-to P k 9 j (up-to P k 8 i (up-to P k 7 h (up-to P k 6 g (up-to P k 5 f to-5)))) most

@@ -1,7 +1,5 @@
 -- Lemmas of several functions of this crate.
 -- a majority, from the cell that a set was gathered in
 mod Judged
--- a condition of a rule, from the code's test of a callee's answer
-mod Tested
 -- one turn of a loop that gathers a set of drives in a cell
 mod Turn

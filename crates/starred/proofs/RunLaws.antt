@@ -11,7 +11,8 @@ use Rattle.state.specs.declared.Answer.the-variants.{Done, Outbid, Chosen, Comm
 use Rattle.state.specs.declared.Block.{Block}
 use Rattle.state.specs.Answers.{codeOf, numberOf}
 use Rattle.room.specs.Step.{answered, stepped}
-use Rattle.starred.specs.Runs.{block, Line, _↝_, Own, OnDrive, own, onDrive, Replays, lastCells, sameAnswer, sameBlock, replays}
+use Rattle.state.specs.Block.{block}
+use Rattle.starred.specs.Runs.{Line, _↝_, Own, OnDrive, own, onDrive, Replays, lastCells, sameAnswer, sameBlock, replays}
 
 -- the answer with this word and this number
 abbrev fromCode : ℕ → ℕ → Answer

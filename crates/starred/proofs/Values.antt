@@ -13,7 +13,8 @@ use Rattle.layout.specs.Places.{roomLength}
 use Rattle.room.specs.Open.{openRefusal, opening}
 use Rattle.room.specs.Step.{answered, stepped}
 use Rattle.state.specs.Sizes.{sizes}
-use Rattle.starred.specs.Runs.{block, newRoom, _↝_, Own, own, Replays, lastCells}
+use Rattle.state.specs.Block.{block}
+use Rattle.starred.specs.Runs.{newRoom, _↝_, Own, own, Replays, lastCells}
 use Rattle.starred.specs.Cases.{offered}
 use Rattle.starred.specs.Starred.{met, proposed, recalled, starred}
 use Rattle.starred.proofs.RunLaws.{later}

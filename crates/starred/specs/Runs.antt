@@ -16,9 +16,6 @@ use Rattle.layout.specs.Cells.{sizesOf, serverOf, blockOf}
 use Rattle.room.specs.Open.{opened}
 use Rattle.room.specs.Step.{answered, stepped}
 
-abbrev pub block : ℕ → ℕ → ℕ → Block
-block mbal bal inp = record { mbal = mbal; bal = bal; inp = inp }
-
 -- what open makes of a row of the right length, in which every old cell is 9
 unfoldable pub newRoom : Sizes → List ℕ
 newRoom z = opened z (replicate (roomLength z) 9)

@@ -4,7 +4,8 @@ use mathlib.Core.List.{List, [], _∷_, _++_}
 use Rattle.command.specs.Command.{enter, strike}
 use Rattle.state.specs.declared.Answer.the-variants.{Done, Outbid, Chosen, Refused}
 use Rattle.state.specs.declared.Step.the-variants.{Offer, Recall, Rejoin, Bid, Write, Read, Finish, Fail}
-use Rattle.starred.specs.Runs.{block, Line, _↝_, Own, OnDrive}
+use Rattle.state.specs.Block.{block}
+use Rattle.starred.specs.Runs.{Line, _↝_, Own, OnDrive}
 use Rattle.starred.specs.Cases.{Case, Length, Unopened, Command, NoCommand, Owned, Majority, Run}
 
 -- 1,000,001 is no ballot, in a run where every other check passes. By its remainder it would be server 0's.

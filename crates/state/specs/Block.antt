@@ -4,9 +4,13 @@ use mathlib.Core.Bool.{Bool}
 use lib.Dec.{leb}
 use Rattle.state.specs.declared.Block.{Block}
 
+-- the block of these cells
+abbrev pub block : ℕ → ℕ → ℕ → Block
+block mbal bal inp = record { mbal = mbal; bal = bal; inp = inp }
+
 -- nothing was written yet
 abbrev pub blank : Block
-blank = record { mbal = 0; bal = 0; inp = 0 }
+blank = block 0 0 0
 
 -- the largest ballot
 abbrev pub limit : ℕ

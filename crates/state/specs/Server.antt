@@ -5,6 +5,7 @@ use mathlib.Core.Bool.{cond}
 use lib.Dec.{eqb}
 use Rattle.state.specs.declared.Block.{Block}
 use Rattle.state.specs.declared.Server.{Server}
+use Rattle.state.specs.Block.{block}
 
 -- the record in this phase and with this own block
 abbrev pub withOwn : Server → ℕ → Block → Server
@@ -65,7 +66,7 @@ failed =
 
 -- the server's own mbal, bal and inp, as it writes them to a drive
 abbrev pub ownBlock : Server → Block
-ownBlock v = record { mbal = v .mbal; bal = v .bal; inp = v .inp }
+ownBlock v = block (v .mbal) (v .bal) (v .inp)
 
 -- the command that the slot was settled with, as far as the server knows: 0 is none
 abbrev pub outputOf : Server → ℕ

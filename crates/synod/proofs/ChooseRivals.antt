@@ -10,12 +10,11 @@ use mathlib.Core.Path.{_≡_, refl, sym, _∙_, ap, subst}
 use mathlib.Core.Logic.{_⊎_, inl, inr}
 use lib.Dec.{eqb, leb}
 use Rattle.ballot.proofs.Laws.{owned-positive}
-use Rattle.lemmas.proofs.Tests.{and-left, and-right, and-intro}
+use Rattle.lemmas.proofs.Tests.{and-left, and-right, and-intro, clash, or-either, neither-left}
 use Rattle.synod.specs.Changes.{proposing}
 use Rattle.synod.proofs.Past.{Ghost, Tried}
 use Rattle.synod.specs.Slot.{Node, Slot, Config}
 use Rattle.synod.proofs.One.{Owns}
-use Rattle.synod.proofs.Logic.{clash, or-either, neither-first}
 use Rattle.synod.proofs.Ghosts.{Proposed, tried, Failing, sift}
 use Rattle.synod.proofs.Marks.{saw, none-stands}
 use Rattle.synod.proofs.Update.{everywhere}
@@ -144,7 +143,7 @@ module _ {c : Config} {g : Ghost} {σ : Slot} {p : ℕ} (k : Choice c g σ p) wh
       le =
           leb-true (ballot k) (w .one .ballot)
           (not-false (leb (ballot k) (w .one .ballot))
-          (neither-first (not (leb (ballot k) (w .one .ballot))) (eqb (w .one .command) (command k)) (w .fails)))
+          (neither-left (not (leb (ballot k) (w .one .ballot))) (eqb (w .one .command) (command k)) (w .fails)))
 
       ne : o ≡ p → ⊥
       ne e =

@@ -10,8 +10,7 @@ use Rattle.state.specs.declared.Server.{Server}
 use Rattle.synod.specs.Rules.{completeOn, othersRead}
 use Rattle.synod.specs.Slot.{Config}
 use Rattle.quorum.proofs.AllBelow.{all-at}
-use Rattle.lemmas.proofs.Tests.{and-left, and-right}
-use Rattle.synod.proofs.Logic.{or-either}
+use Rattle.lemmas.proofs.Tests.{and-left, and-right, or-either}
 use Rattle.synod.proofs.Marks.{wrote, saw}
 use Rattle.synod.proofs.Quorums.{Quorum}
 

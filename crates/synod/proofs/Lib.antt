@@ -3,8 +3,7 @@
 -- one slot as a machine, and what its past tells
 pub mod Machine
 pub mod Past
--- the ground: truth values, updated functions, sets of drives, the past, marks
-pub mod Logic
+-- the ground: updated functions, sets of drives, the past, marks
 pub mod Update
 pub mod Quorums
 pub mod Ghosts

@@ -8,7 +8,7 @@ use mathlib.Core.Logic.{_⊎_, inl, inr}
 use Rattle.quorum.specs.Marks.{stands, marked}
 use Rattle.state.specs.declared.Server.{Server}
 use Rattle.synod.specs.Changes.{readBit}
-use Rattle.synod.proofs.Logic.{clash}
+use Rattle.lemmas.proofs.Tests.{clash}
 use Rattle.quorum.proofs.MarkLaws.{stands-marked-same, stands-marked-other, stands-zero}
 
 -- drive d was written in this phase

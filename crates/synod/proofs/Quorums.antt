@@ -8,7 +8,7 @@ use mathlib.Core.Logic.{_⊎_, inl, inr}
 use native.Mathlib.Decide.{ℕ-discrete}
 use Rattle.quorum.specs.Sets.{majority}
 use Rattle.quorum.proofs.Share.{Shared, share}
-use Rattle.synod.proofs.Logic.{clash}
+use Rattle.lemmas.proofs.Tests.{clash}
 
 pub record Quorum (n : ℕ) (P : ℕ → Type 0) : Type 0 where
   pub set : ℕ → Bool

@@ -27,7 +27,7 @@ use Rattle.checks.proofs.CheckLaws.{must-cases, either-cases}
 use Rattle.synod.proofs.Machine.{ruled}
 use Rattle.synod.specs.Rules.{balloting, recalledOn, completeOn, commandOf, recallRule, rejoinRule, bidRule, writeRule, outbidRule, readRule, finishRule, ruling, ruleOf}
 use Rattle.synod.specs.Slot.{Slot, Config}
-use Rattle.synod.proofs.Logic.{or-either}
+use Rattle.lemmas.proofs.Tests.{or-either}
 
 -- phase 1 or 2, by number
 pub record Balloting (v : Server) : Type 0 where

@@ -8,7 +8,7 @@ use mathlib.Core.Path.{_≡_, _∙_, sym, ap, subst}
 use mathlib.Core.Bool.{true}
 use mathlib.Core.List.{List}
 use lib.ListN.{length, replicate}
-use borrow.Author.Tests.{not-true, not-false}
+use Rattle.lemmas.proofs.Tests.{holds, lacks}
 use Rattle.state.specs.declared.Sizes.{Sizes}
 use Rattle.range.specs.Range.{inRange}
 use Rattle.catalogue.specs.Fold.{pieces}
@@ -22,7 +22,7 @@ abbrev start : tie.Else2 → tie.Start
 start c = c .before .before .before .before .before
 
 range : (c : tie.Else2) → inRange (start c .args .room .now) ≡ true
-range c = sym (c .before .in-range .ensures) ∙ not-false _ (c .if2 .left)
+range c = holds (c .before .in-range .ensures) (c .if2 .left)
 
 exact : (c : tie.Else2) → length (start c .args .out .now) ≡ pieces
 exact c = c .before .before .if1 .left
@@ -77,7 +77,7 @@ returns-2 : tie.Need-returns-2
 returns-2 c =
     let a = c .before .before .before .before .before .args in
     out-of-range (a .room .now) (a .server) (a .out .now) (c .before .before .if1 .left)
-    (sym (c .before .in-range .ensures) ∙ not-true _ (c .if2 .taken))
+    (lacks (c .before .in-range .ensures) (c .if2 .taken))
 
 sizes-requires : tie.Need-sizes-requires
 sizes-requires c κs = room-head (start c .args .room .now) (range c)

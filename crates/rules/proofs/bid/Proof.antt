@@ -5,7 +5,7 @@ use Rattle.rules.proofs.bid.Tie as tie
 use mathlib.Core.Path.{_≡_}
 use mathlib.Core.Bool.{true}
 use borrow.Author.Tests.{lt-ltb, le-ltb}
-use Rattle.rules.proofs.Tested.{holds, lacks}
+use Rattle.lemmas.proofs.Tests.{holds, lacks}
 use Rattle.ballot.specs.Ballot.{owned}
 use Rattle.checks.specs.Checks.{must}
 use Rattle.synod.specs.Rules.{balloting, bidRule}

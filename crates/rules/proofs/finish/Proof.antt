@@ -6,7 +6,7 @@ use mathlib.Core.Path.{_≡_, _∙_, sym}
 use mathlib.Core.Bool.{Bool, true}
 use borrow.Author.Tests.{eq-eqb, ne-eqb}
 use Rattle.rules.proofs.Judged.{judged}
-use Rattle.rules.proofs.Tested.{holds, lacks}
+use Rattle.lemmas.proofs.Tests.{holds, lacks}
 use Rattle.quorum.specs.Sets.{majority}
 use Rattle.synod.specs.Changes.{proposing, committing}
 use Rattle.checks.specs.Checks.{must}

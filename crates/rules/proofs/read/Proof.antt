@@ -5,7 +5,7 @@ use Rattle.rules.proofs.read.Tie as tie
 use mathlib.Core.Path.{_≡_, _∙_, sym}
 use mathlib.Core.Bool.{true, false}
 use borrow.Author.Tests.{lt-ltb, le-ltb}
-use Rattle.rules.proofs.Tested.{holds, lacks}
+use Rattle.lemmas.proofs.Tests.{holds, lacks}
 use Rattle.quorum.specs.Marks.{stands}
 use Rattle.synod.specs.Changes.{reading, marking}
 use Rattle.checks.specs.Checks.{must}

@@ -4,7 +4,7 @@ use Rattle.rules.proofs.write.Statement.{statement}
 use Rattle.rules.proofs.write.Tie as tie
 use mathlib.Core.Path.{_≡_, _∙_, sym}
 use mathlib.Core.Bool.{true}
-use Rattle.rules.proofs.Tested.{holds, lacks}
+use Rattle.lemmas.proofs.Tests.{holds, lacks}
 use Rattle.synod.specs.Changes.{writing}
 use Rattle.checks.specs.Checks.{must}
 use Rattle.synod.specs.Rules.{balloting, writeRule}

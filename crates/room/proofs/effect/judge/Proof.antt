@@ -7,7 +7,7 @@ use Prim.Native.Nat.{ℕ}
 use mathlib.Core.Path.{_≡_, _∙_, sym, ap, subst⁻¹}
 use mathlib.Core.Bool.{true}
 use mathlib.Core.List.{List}
-use borrow.Author.Tests.{not-true, not-false}
+use Rattle.lemmas.proofs.Tests.{holds, lacks}
 use Rattle.state.specs.declared.Sizes.{Sizes}
 use Rattle.synod.specs.Arguments.{placesFit, commandFits}
 use Rattle.layout.specs.Cells.{sizesOf, limitsOf}
@@ -20,7 +20,7 @@ use Rattle.room.proofs.Checks.{refused-3, refused-4, refused-5, passed}
 
 -- once the sizes are asked for, the row is a room in range
 ranged : (c : tie.After-sizes) → inRange (c .before .before .before .before .args .room .now) ≡ true
-ranged c = sym (c .before .before .in-range .ensures) ∙ not-false _ (c .before .if1 .left)
+ranged c = holds (c .before .before .in-range .ensures) (c .before .if1 .left)
 
 -- the places were judged by the room's own sizes, the command by its own limits
 places
@@ -40,36 +40,36 @@ commands c =
     c .command-fits .ensures ∙ ap (λ (l : List ℕ). commandFits l (args .step)) (c .before .before .limits .ensures)
 
 returns : tie.Need-returns
-returns c = sym (refused-3 _ _ (sym (c .before .in-range .ensures) ∙ not-true _ (c .if1 .taken)))
+returns c = sym (refused-3 _ _ (lacks (c .before .in-range .ensures) (c .if1 .taken)))
 
 sizes-requires : tie.Need-sizes-requires
 sizes-requires c κs =
-    let i = range-says _ (sym (c .before .in-range .ensures) ∙ not-false _ (c .if1 .left)) in
+    let i = range-says _ (holds (c .before .in-range .ensures) (c .if1 .left)) in
     omega (arith, base-room _ (i .row .fit), i .row .exact)
 
 returns-2 : tie.Need-returns-2
-returns-2 c = sym (refused-4 _ _ (ranged (c .before .before)) (sym (places (c .before)) ∙ not-true _ (c .if2 .taken)))
+returns-2 c = sym (refused-4 _ _ (ranged (c .before .before)) (lacks (places (c .before)) (c .if2 .taken)))
 
 returns-3 : tie.Need-returns-3
 returns-3 c =
     let placed = c .before .before .before .before .before in
-    let fit = sym (places placed) ∙ not-false _ (c .before .before .before .before .if2 .left) in
-    sym (refused-5 _ _ (ranged (placed .before)) fit (sym (commands (c .before)) ∙ not-true _ (c .if3 .taken)))
+    let fit = holds (places placed) (c .before .before .before .before .if2 .left) in
+    sym (refused-5 _ _ (ranged (placed .before)) fit (lacks (commands (c .before)) (c .if3 .taken)))
 
 rule-requires : tie.Need-rule-requires
 rule-requires c κs =
     let placed = c .before .before .before .before .before in
     let i = range-says _ (ranged (placed .before)) in (
       subst⁻¹ (λ (z : Sizes). Row z (placed .before .before .before .before .before .args .room .now)) (placed .before .sizes .ensures) (i .row),
-      sym (placed .places-fit .ensures) ∙ not-false _ (c .before .before .before .before .if2 .left),
+      holds (placed .places-fit .ensures) (c .before .before .before .before .if2 .left),
     )
 
 returns-4 : tie.Need-returns-4
 returns-4 c =
     let judged = c .before .before in
     let placed = judged .before .before .before .before in
-    let fit = sym (places placed) ∙ not-false _ (judged .before .before .before .if2 .left) in
-    let brought = sym (commands judged) ∙ not-false _ (c .before .if3 .left) in
+    let fit = holds (places placed) (judged .before .before .before .if2 .left) in
+    let brought = holds (commands judged) (c .before .if3 .left) in
     let args = placed .before .before .before .before .before .args in
     c .rule .ensures ∙ ap (λ (z : Sizes). effectOf z (args .room .now) (args .step)) (placed .before .sizes .ensures)
     ∙ sym (passed _ _ (ranged (placed .before)) fit brought)

@@ -7,7 +7,7 @@ use Prim.Native.Nat.{ℕ, _≤_, _-_}
 use mathlib.Core.Path.{_≡_, _∙_, sym, ap}
 use mathlib.Core.Bool.{Bool, true, _||_}
 use lib.Dec.{eqb}
-use Rattle.rules.proofs.Tested.{holds, lacks}
+use Rattle.lemmas.proofs.Tests.{holds, lacks}
 use Rattle.quorum.specs.Marks.{stands}
 use Rattle.quorum.proofs.AllBelow.{all-none, all-more, all-fails}
 use Rattle.synod.specs.Rules.{othersRead, otherRead}
