@@ -69,11 +69,11 @@ pub fn judge(room: &[u32], step: Step) -> Effect
         return Effect::Refused(3);
     }
     let z = layout::sizes(room);
-    if !rules::arguments::places_fit(z, step) {
+    if !arguments::places_fit(z, step) {
         return Effect::Refused(4);
     }
     let limits = layout::limits(room);
-    if !rules::arguments::command_fits(&limits, step) {
+    if !arguments::command_fits(&limits, step) {
         return Effect::Refused(5);
     }
     rule(room, z, step)

@@ -16,9 +16,6 @@ use state::Block;
 use state::Server;
 use synod::Ruling;
 
-pub mod arguments;
-pub mod drives;
-
 // 1 Offer, in any phase.
 pub fn offer(mut v: Server, command: u32) -> Ruling
     ensures { λ r. ⌜ r ≡ ruling (offerRule v command) ⌝ }

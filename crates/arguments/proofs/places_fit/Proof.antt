@@ -1,7 +1,7 @@
--- `rules::arguments::places_fit` meets its contract: each arm is the definition's case of that kind.
+-- `arguments::places_fit` meets its contract: each arm is the definition's case of that kind.
 use borrow.Author.Needs.{needs}
-use Rattle.rules.proofs.arguments.places_fit.Statement.{statement}
-use Rattle.rules.proofs.arguments.places_fit.Tie as tie
+use Rattle.arguments.proofs.places_fit.Statement.{statement}
+use Rattle.arguments.proofs.places_fit.Tie as tie
 use mathlib.Core.Path.{_≡_, refl, _∙_, sym, ap}
 use mathlib.Core.Bool.{Bool}
 use Rattle.state.specs.declared.Sizes.{Sizes}

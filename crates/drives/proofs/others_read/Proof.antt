@@ -1,7 +1,7 @@
--- `rules::drives::others_read` meets its contract: the servers passed so far are p or were read.
+-- `drives::others_read` meets its contract: the servers passed so far are p or were read.
 use borrow.Author.Needs.{needs}
-use Rattle.rules.proofs.drives.others_read.Statement.{statement}
-use Rattle.rules.proofs.drives.others_read.Tie as tie
+use Rattle.drives.proofs.others_read.Statement.{statement}
+use Rattle.drives.proofs.others_read.Tie as tie
 use native.Mathlib.Omega.{arith}
 use Prim.Native.Nat.{ℕ, _≤_, _-_}
 use mathlib.Core.Path.{_≡_, _∙_, sym, ap}

@@ -1,7 +1,7 @@
--- `rules::arguments::command_fits` meets its contract: only Offer has a command.
+-- `arguments::command_fits` meets its contract: only Offer has a command.
 use borrow.Author.Needs.{needs}
-use Rattle.rules.proofs.arguments.command_fits.Statement.{statement}
-use Rattle.rules.proofs.arguments.command_fits.Tie as tie
+use Rattle.arguments.proofs.command_fits.Statement.{statement}
+use Rattle.arguments.proofs.command_fits.Tie as tie
 use mathlib.Core.Path.{_≡_, refl, _∙_, sym, ap}
 use Rattle.synod.specs.Arguments.{commandFits}
 use Rattle.state.specs.declared.Step.{Step}

@@ -1,12 +1,12 @@
--- `rules::drives::recalled` meets its contract: the drives passed so far are gathered.
+-- `drives::recalled` meets its contract: the drives passed so far are gathered.
 use borrow.Author.Needs.{needs}
-use Rattle.rules.proofs.drives.recalled.Statement.{statement}
-use Rattle.rules.proofs.drives.recalled.Tie as tie
+use Rattle.drives.proofs.recalled.Statement.{statement}
+use Rattle.drives.proofs.recalled.Tie as tie
 use native.Mathlib.Omega.{arith}
 use Prim.Native.Nat.{_≤_, _-_}
 use mathlib.Core.Path.{_≡_, _∙_, sym, ap}
 use mathlib.Core.Logic.{⊎-elim}
-use Rattle.rules.proofs.Turn.{joins, stays}
+use Rattle.drives.proofs.Turn.{joins, stays}
 use Rattle.quorum.specs.Marks.{stands}
 use Rattle.quorum.specs.Sets.{gathered}
 use Rattle.quorum.proofs.Gathered.{gathered-zero}

@@ -1,13 +1,13 @@
--- `rules::drives::complete` meets its contract: the drives passed so far are gathered.
+-- `drives::complete` meets its contract: the drives passed so far are gathered.
 use borrow.Author.Needs.{needs}
-use Rattle.rules.proofs.drives.complete.Statement.{statement}
-use Rattle.rules.proofs.drives.complete.Tie as tie
+use Rattle.drives.proofs.complete.Statement.{statement}
+use Rattle.drives.proofs.complete.Tie as tie
 use native.Mathlib.Omega.{arith}
 use Prim.Native.Nat.{_≤_, _-_}
 use mathlib.Core.Path.{_≡_, _∙_, sym, ap₂}
 use mathlib.Core.Bool.{_&&_}
 use mathlib.Core.Logic.{⊎-elim}
-use Rattle.rules.proofs.Turn.{joins, stays}
+use Rattle.drives.proofs.Turn.{joins, stays}
 use Rattle.quorum.specs.Sets.{gathered}
 use Rattle.quorum.proofs.Gathered.{gathered-zero}
 use Rattle.synod.specs.Rules.{completeOn}
