@@ -48,7 +48,7 @@ no-command limits v a b c =
     simp (e, one, two, three))
     (λ e. simp e)
 
--- "Zero is no command"
+-- 0 is none
 pub zero-no-command : (limits : List ℕ) → isCommand limits 0 ≡ false
 unfolding isCommand hoardFits
 zero-no-command limits = refl

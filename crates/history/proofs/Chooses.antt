@@ -16,7 +16,7 @@ use Rattle.step_laws.proofs.Commits.{only-finish}
 use Rattle.history.specs.Run.{Move, Chooses, Rests, committed, moveOf, WhenChooses}
 use Rattle.history.proofs.Choosers.{chooses-map, tested, chooser}
 
--- "a committed Finish makes Choose(p) in its slot"
+-- a Finish that commits chooses, in its slot
 pub finish-chooses
     : (t p : ℕ) (cells : List ℕ) → committed (answered cells (Finish p t)) ≡ true
     → moveOf t (Finish p t) (answered cells (Finish p t)) ≡ Chooses p
@@ -45,7 +45,7 @@ by-finish t cells st =
     chooses-map m _ _ (λ q s. record { step = s; commits = e }) is)
     (λ e. chooses-map m _ _ (λ q c. absurd (true≢false (sym (c .by) ∙ e))) (chooser t st a))
 
--- "any other step, and any refusal, none"
+-- nothing else chooses
 pub choose-is-finish
     : (t p : ℕ) (cells : List ℕ) (st : Step) → moveOf t st (answered cells st) ≡ Chooses p → ByFinish t cells st p
 choose-is-finish t p cells st e = subst (λ (m : Move). WhenChooses m (ByFinish t cells st)) e (by-finish t cells st)

@@ -41,7 +41,7 @@ pub majority-same : (n : ℕ) (f g : ℕ → Bool) → ((d : ℕ) → d < n → 
 unfolding majority
 majority-same n f g h = rw (size-same n f g h)
 
--- "counted as the ones in a mark cell": the ones below bit n are the drives whose bit stands
+-- the ones below bit n are the drives whose bit stands
 one-digit : (m n : ℕ) → ones (m / 2 ^ n % 2) ≡ cond (stands m n) 1 0
 unfolding ones onesIn
 one-digit m n =

@@ -13,7 +13,7 @@ use Rattle.synod.proofs.One.{Owns, Sound}
 use Rattle.synod.proofs.Proposals.{Ahead}
 use Rattle.synod.proofs.Frame.{Change}
 
--- clear "means written, read, top become 0 and seenbal, seeninp become the own bal, inp"; top counts in phase 0 only
+-- what clear leaves; top counts in phase 0 only
 pub record Cleared (v : Server) : Type 0 where
   pub written : v .written ≡ 0
   pub read : v .read ≡ 0
