@@ -3,14 +3,14 @@
 use Prim.Native.Nat.{ℕ, _≤_, _<_}
 use mathlib.Core.Path.{_≡_, refl, sym, subst}
 use mathlib.Core.Bool.{true}
-use mathlib.Core.List.{List, [], _∷_}
+use mathlib.Core.List.{List, [], _∷_, List·Memᴰ}
 use native.Mathlib.Omega.{arith}
 use lib.ListN.{length, getD}
 use lib.Dec.{eqb, ltb}
 use borrow.Author.Tests.{eqb-true, eqb-false, ltb-true, ltb-false}
 use Rattle.lemmas.proofs.Tests.{by-test}
-use Rattle.checks.specs.Refusals.{refusalsOf, numbersOf, lowest}
-use Rattle.checks.proofs.LowestLaws.{first-applies}
+use Rattle.checks.specs.Refusals.{Refusal, refusalsOf, numbersOf, rises, lowest}
+use Rattle.checks.proofs.LowestLaws.{first-applies, lowest-first}
 use Rattle.state.specs.declared.Sizes.{Sizes}
 use Rattle.layout.specs.Cells.{sizesOf}
 use Rattle.range.specs.Range.{inRange}
@@ -110,6 +110,17 @@ module _ (room : List ℕ) (server : ℕ) (out : List ℕ) where
   pub catalogue-lowest : catalogueRefusal (catalogueOf room server out) ≡ lowest (refusalsOf (catalogueChecks room server out))
   unfolding catalogueOf catalogueChecks
   catalogue-lowest = first-applies Refused catalogueRefusal (λ n. refl) (catalogueChecks room server out) refl
+
+  catalogue-rising : rises 0 (numbersOf (refusalsOf (catalogueChecks room server out))) ≡ true
+  unfolding catalogueChecks numbersOf rises
+  catalogue-rising = refl
+
+  -- and no lower one applies
+  pub catalogue-least
+      : (r : Refusal) → List·Memᴰ r (refusalsOf (catalogueChecks room server out)) → r .applies ≡ true
+      → catalogueRefusal (catalogueOf room server out) ≤ r .number
+  catalogue-least r m e =
+      rw catalogue-lowest (lowest-first 0 (refusalsOf (catalogueChecks room server out)) catalogue-rising r m e .least)
 
   left : (l : Listing) (new : List ℕ) → (catalogueRefusal l ≡ 0 → ⊥) → leftBy l new out ≡ out
   left (Counted k n) new h = absurd (h refl)

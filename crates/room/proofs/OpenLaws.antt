@@ -2,15 +2,15 @@
 use Prim.Native.Nat.{ℕ, suc, _-_, _≤_}
 use mathlib.Core.Path.{_≡_, refl, _∙_, sym, ap}
 use mathlib.Core.Bool.{true, false}
-use mathlib.Core.List.{List, [], _∷_}
+use mathlib.Core.List.{List, [], _∷_, List·Memᴰ}
 use native.Mathlib.Omega.{arith}
 use lib.ListN.{length, set, replicate}
 use lib.Dec.{eqb}
 use borrow.Author.Tests.{eqb-true}
 use Rattle.lemmas.proofs.Tests.{by-test}
 use Rattle.checks.specs.Checks.{must}
-use Rattle.checks.specs.Refusals.{refusalsOf, numbersOf, lowest}
-use Rattle.checks.proofs.LowestLaws.{first-applies}
+use Rattle.checks.specs.Refusals.{Refusal, refusalsOf, numbersOf, rises, lowest}
+use Rattle.checks.proofs.LowestLaws.{first-applies, lowest-first}
 use Rattle.state.specs.declared.Sizes.{Sizes}
 use Rattle.layout.specs.Places.{sizesFit, roomLength, Fit}
 use Rattle.layout.proofs.PlaceLaws.{base-room}
@@ -67,6 +67,15 @@ module _ (z : Sizes) (cells : List ℕ) where
   pub open-lowest : openRefusal (opening z cells) ≡ lowest (refusalsOf (openChecks z cells))
   unfolding opening openChecks
   open-lowest = first-applies Refused openRefusal (λ n. refl) (openChecks z cells) refl
+
+  open-rising : rises 0 (numbersOf (refusalsOf (openChecks z cells))) ≡ true
+  unfolding openChecks numbersOf rises
+  open-rising = refl
+
+  -- and no lower one applies
+  pub open-least
+      : (r : Refusal) → List·Memᴰ r (refusalsOf (openChecks z cells)) → r .applies ≡ true → openRefusal (opening z cells) ≤ r .number
+  open-least r m e = rw open-lowest (lowest-first 0 (refusalsOf (openChecks z cells)) open-rising r m e .least)
 
   left : (o : Opening) → (openRefusal o ≡ 0 → ⊥) → openedBy z cells o ≡ cells
   left Opened h = absurd (h refl)

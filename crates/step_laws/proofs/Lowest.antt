@@ -1,12 +1,12 @@
 -- A refused step carries the lowest number that applies and leaves the row as it was; a step to which none applies is
 -- accepted.
-use Prim.Native.Nat.{ℕ}
+use Prim.Native.Nat.{ℕ, _≤_}
 use mathlib.Core.Path.{_≡_, refl, _∙_, sym, ap}
 use mathlib.Core.Bool.{true}
-use mathlib.Core.List.{List, _∷_}
-use Rattle.checks.specs.Refusals.{refusalsOf, numbersOf, rises, lowest}
+use mathlib.Core.List.{List, _∷_, List·Memᴰ}
+use Rattle.checks.specs.Refusals.{Refusal, refusalsOf, numbersOf, rises, lowest}
 use Rattle.checks.proofs.CheckLaws.{AllGive, all-give, all-map}
-use Rattle.checks.proofs.LowestLaws.{first-applies}
+use Rattle.checks.proofs.LowestLaws.{first-applies, lowest-first}
 use Rattle.state.specs.declared.Answer.{Answer}
 use Rattle.state.specs.declared.Answer.the-variants as answer
 use Rattle.state.specs.declared.Sizes.{Sizes}
@@ -105,6 +105,14 @@ answer-lowest cells st =
     (λ a b. simp (a, b))
     (λ a b c. simp (a, b, c))
     (λ a b c. simp (a, b, c) (effect-lowest (sizesOf cells) cells st))
+
+-- and no lower one applies
+pub answer-least
+    : (cells : List ℕ) (st : Step) (r : Refusal) → List·Memᴰ r (refusals cells st) → r .applies ≡ true
+    → stepRefusal (answered cells st) ≤ r .number
+answer-least cells st r m e =
+    let up = ap (rises 0) (numbers-listed cells st) ∙ rising st in
+    rw (answer-lowest cells st) (lowest-first 0 (refusals cells st) up r m e .least)
 
 -- an accepted ruling is never answered with a refusal, so a refusal stores nothing
 abbrev Stays : Sizes → List ℕ → Effect → Type 0
