@@ -3,7 +3,8 @@
 use libc::STDIN_FILENO;
 use libc::STDOUT_FILENO;
 
-// The text is written in one piece. Where the output is closed there is nothing left to do.
+// The text is written in one piece. Where it cannot be written, a line on standard error says why: a program cannot set
+// its status.
 fn main() {
     let mut input = [0u8; rehearsal::INPUT_MAX + 1];
     let length = io::read_full(STDIN_FILENO, &mut input);
@@ -13,7 +14,9 @@ fn main() {
     let mut room = [0u32; rehearsal::CELLS_MAX];
     let mut out = [0u8; rehearsal::TEXT_MAX];
     let text = rehearsal::rehearse(&input[..length], &mut room, &mut out);
-    io::write_all(STDOUT_FILENO, &out[..text]);
+    if !io::write_all(STDOUT_FILENO, &out[..text]) {
+        os::fail(b"rehearse: standard output");
+    }
 }
 
 // Reads what is left of an input that is too long, so that whoever writes it can end. A proved loop has to end, and
