@@ -1,2 +1,3 @@
 -- Laws of commands, for the crates above.
 pub mod Laws
+pub mod TopLaws

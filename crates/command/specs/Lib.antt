@@ -1,2 +1,3 @@
--- What a command is.
+-- What a command is, and the table by which all cells of a room are judged.
 pub mod Command
+pub mod Tops
