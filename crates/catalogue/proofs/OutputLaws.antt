@@ -145,7 +145,7 @@ unfolding valueFits
 output-of limits true v e = e
 output-of limits false v e = refl
 
-server-output : (limits : List ℕ) (k : Masks) (v : Server) → serverFits limits k v ≡ true → valueFits limits (outputOf v) ≡ true
+server-output : (limits : List ℕ) (k : Masks) (v : Server) → serverFits (valueFits limits) k v ≡ true → valueFits limits (outputOf v) ≡ true
 unfolding serverFits
 server-output limits k v e =
     let numbers = numbersFit k v in

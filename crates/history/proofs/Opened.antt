@@ -19,7 +19,7 @@ use Rattle.layout.specs.Places.{base, roomLength, serverAt, nthBlockAt, blockAt
 use Rattle.layout.proofs.CellLaws.{server-read, block-read}
 use Rattle.layout.specs.Cells.{serverIn, serverOf, blockIn, blockOf}
 use Rattle.layout.proofs.PlaceLaws.{base-room, base-server, base-nth}
-use Rattle.range.specs.Range.{legalDrives, masksOf, serverFits, blockFits}
+use Rattle.range.specs.Range.{legalDrives, masksOf, valueFits, serverFits, blockFits}
 use Rattle.range.proofs.RecordLaws.{BlockIn, says-server, says-block, zero-fits}
 use Rattle.room.specs.Open.{openedCells}
 use Rattle.step_laws.proofs.RulesKeep.{failed-in}
@@ -71,11 +71,11 @@ opens limits z f =
                   off = ap (λ (m : ℕ). within m (legalDrives z)) (opened-from z 3 (omega arith)) ∙ within-zero (legalDrives z);
                   servers =
                       λ s p h l.
-                      ap (λ (v : Server). serverFits limits (masksOf z) v) (opened-server z (serverAt z s p) (base-server z f s p))
+                      ap (λ (v : Server). serverFits (valueFits limits) (masksOf z) v) (opened-server z (serverAt z s p) (base-server z f s p))
                       ∙ says-server limits (masksOf z) failed (failed-in limits z);
                   nths =
                       λ s k h l.
-                      ap (blockFits limits) (opened-block z (nthBlockAt z s k) (base-nth z f s k))
+                      ap (blockFits (valueFits limits)) (opened-block z (nthBlockAt z s k) (base-nth z f s k))
                       ∙ says-block limits blank (blank-in limits);
                 };
             sizes = unfold openedCells in refl;

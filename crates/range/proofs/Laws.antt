@@ -14,7 +14,7 @@ use Rattle.state.specs.declared.Sizes.{Sizes}
 use Rattle.layout.specs.Places.{base, sizesFit, roomLength, nthBlockAt, blockAt, Row}
 use Rattle.layout.specs.Cells.{sizesOf, offOf, limitsOf, serverOf, blockOf, blockIn}
 use Rattle.layout.proofs.PlaceLaws.{fit-of, of-fit, nth-of, base-room}
-use Rattle.range.specs.Range.{legalDrives, masksOf, serverFits, blockFits, serversFit, blocksFit, slotFits, cellsFit, inRange}
+use Rattle.range.specs.Range.{legalDrives, masksOf, valueFits, serverFits, blockFits, serversFit, blocksFit, slotFits, cellsFit, inRange}
 
 -- the tests in their order, for a row of claimed limits and sizes z
 pub short-row : (r : List ℕ) → length r < base → inRange r ≡ false
@@ -43,11 +43,11 @@ module _ (limits : List ℕ) (z : Sizes) (r : List ℕ) where
 
   pub then-slots
       : (x : Bool) → sizesFit z ≡ true → eqb (length r) (roomLength z) ≡ true → within (offOf r) (legalDrives z) ≡ true
-      → x ≡ allBelow (z .slots) (slotFits limits z r) → x ≡ cellsFit limits z r
+      → x ≡ allBelow (z .slots) (slotFits (valueFits limits) z r) → x ≡ cellsFit limits z r
   unfolding cellsFit
   then-slots x a b c e =
       goes-on (sizesFit z && eqb (length r) (roomLength z) && within (offOf r) (legalDrives z))
-      (allBelow (z .slots) (slotFits limits z r)) x
+      (allBelow (z .slots) (slotFits (valueFits limits) z r)) x
       (and-intro (sizesFit z && eqb (length r) (roomLength z)) (within (offOf r) (legalDrives z))
       (and-intro (sizesFit z) (eqb (length r) (roomLength z)) a b) c) e
 
@@ -55,12 +55,12 @@ module _ (limits : List ℕ) (z : Sizes) (r : List ℕ) where
 pub record InRange (limits : List ℕ) (z : Sizes) (r : List ℕ) : Type 0 where
   pub row : Row z r
   pub off : within (offOf r) (legalDrives z) ≡ true
-  pub servers : (s p : ℕ) → s < z .slots → p < z .servers → serverFits limits (masksOf z) (serverOf z r s p) ≡ true
-  pub nths : (s k : ℕ) → s < z .slots → k < z .drives * z .servers → blockFits limits (blockIn r (nthBlockAt z s k)) ≡ true
+  pub servers : (s p : ℕ) → s < z .slots → p < z .servers → serverFits (valueFits limits) (masksOf z) (serverOf z r s p) ≡ true
+  pub nths : (s k : ℕ) → s < z .slots → k < z .drives * z .servers → blockFits (valueFits limits) (blockIn r (nthBlockAt z s k)) ≡ true
 
 pub block-fits
     : (limits : List ℕ) (z : Sizes) (r : List ℕ) → InRange limits z r → (s d p : ℕ) → s < z .slots → d < z .drives → p < z .servers
-    → blockFits limits (blockOf z r s d p) ≡ true
+    → blockFits (valueFits limits) (blockOf z r s d p) ≡ true
 unfolding blockOf blockAt
 block-fits limits z r i s d p h l k = i .nths s (d * z .servers + p) h (nth-of z (i .row .fit) d p l k)
 
@@ -70,9 +70,9 @@ cells-say limits z r e =
     let sizes = sizesFit z in
     let exact = eqb (length r) (roomLength z) in
     let off = within (offOf r) (legalDrives z) in
-    let front = and-left (sizes && exact && off) (allBelow (z .slots) (slotFits limits z r)) e in
+    let front = and-left (sizes && exact && off) (allBelow (z .slots) (slotFits (valueFits limits) z r)) e in
     let front2 = and-left (sizes && exact) off front in
-    let slot = all-at (z .slots) (slotFits limits z r) (and-right (sizes && exact && off) (allBelow (z .slots) (slotFits limits z r)) e) in
+    let slot = all-at (z .slots) (slotFits (valueFits limits) z r) (and-right (sizes && exact && off) (allBelow (z .slots) (slotFits (valueFits limits) z r)) e) in
     record {
       row =
           record {
@@ -82,12 +82,12 @@ cells-say limits z r e =
       off = and-right (sizes && exact) off front;
       servers =
           λ s p h l.
-          all-at (z .servers) (λ q. serverFits limits (masksOf z) (serverOf z r s q))
-          (and-left (serversFit limits z r s) (blocksFit limits z r s) (slot s h)) p l;
+          all-at (z .servers) (λ q. serverFits (valueFits limits) (masksOf z) (serverOf z r s q))
+          (and-left (serversFit (valueFits limits) z r s) (blocksFit (valueFits limits) z r s) (slot s h)) p l;
       nths =
           λ s k h l.
-          all-at (z .drives * z .servers) (λ j. blockFits limits (blockIn r (nthBlockAt z s j)))
-          (and-right (serversFit limits z r s) (blocksFit limits z r s) (slot s h)) k l;
+          all-at (z .drives * z .servers) (λ j. blockFits (valueFits limits) (blockIn r (nthBlockAt z s j)))
+          (and-right (serversFit (valueFits limits) z r s) (blocksFit (valueFits limits) z r s) (slot s h)) k l;
     }
 
 pub say-cells : (limits : List ℕ) (z : Sizes) (r : List ℕ) → InRange limits z r → cellsFit limits z r ≡ true
@@ -96,11 +96,11 @@ say-cells limits z r i =
     sym
     (then-slots limits z r true (of-fit z (i .row .fit)) (eq-eqb (length r) (roomLength z) (i .row .exact)) (i .off)
     (sym
-    (all-intro (z .slots) (slotFits limits z r)
+    (all-intro (z .slots) (slotFits (valueFits limits) z r)
     (λ s h.
-    and-intro (serversFit limits z r s) (blocksFit limits z r s)
-    (all-intro (z .servers) (λ q. serverFits limits (masksOf z) (serverOf z r s q)) (λ p l. i .servers s p h l))
-    (all-intro (z .drives * z .servers) (λ j. blockFits limits (blockIn r (nthBlockAt z s j))) (λ k l. i .nths s k h l))))))
+    and-intro (serversFit (valueFits limits) z r s) (blocksFit (valueFits limits) z r s)
+    (all-intro (z .servers) (λ q. serverFits (valueFits limits) (masksOf z) (serverOf z r s q)) (λ p l. i .servers s p h l))
+    (all-intro (z .drives * z .servers) (λ j. blockFits (valueFits limits) (blockIn r (nthBlockAt z s j))) (λ k l. i .nths s k h l))))))
 
 pub range-says : (r : List ℕ) → inRange r ≡ true → InRange (limitsOf r) (sizesOf r) r
 unfolding inRange

@@ -2,3 +2,4 @@
 pub mod MaskTable
 pub mod Laws
 pub mod RecordLaws
+pub mod Together

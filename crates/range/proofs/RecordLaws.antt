@@ -36,7 +36,7 @@ pub record BlockIn (limits : List ℕ) (b : Block) : Type 0 where
   pub bal : b .bal ≤ limit
   pub inp : valueFits limits (b .inp) ≡ true
 
-pub server-says : (limits : List ℕ) (k : Masks) (v : Server) → serverFits limits k v ≡ true → ServerIn limits k v
+pub server-says : (limits : List ℕ) (k : Masks) (v : Server) → serverFits (valueFits limits) k v ≡ true → ServerIn limits k v
 unfolding serverFits numbersFit
 server-says limits k v e =
     let a = leb (v .phase) 3 in
@@ -71,7 +71,7 @@ server-says limits k v e =
       seeninp = and-right (numbers && i && o) n e;
     }
 
-pub says-server : (limits : List ℕ) (k : Masks) (v : Server) → ServerIn limits k v → serverFits limits k v ≡ true
+pub says-server : (limits : List ℕ) (k : Masks) (v : Server) → ServerIn limits k v → serverFits (valueFits limits) k v ≡ true
 unfolding serverFits numbersFit
 says-server limits k v s =
     let a = le-leb (v .phase) 3 (s .phase) in
@@ -87,7 +87,7 @@ says-server limits k v s =
     (and-intro _ _ (and-intro _ _ (and-intro _ _ (and-intro _ _ a b) c) d) f) (s .written)) (s .read)) (s .inp)) (s .offer))
     (s .seeninp)
 
-pub block-says : (limits : List ℕ) (b : Block) → blockFits limits b ≡ true → BlockIn limits b
+pub block-says : (limits : List ℕ) (b : Block) → blockFits (valueFits limits) b ≡ true → BlockIn limits b
 unfolding blockFits
 block-says limits b e =
     let m = ballotFits (b .mbal) in
@@ -100,7 +100,7 @@ block-says limits b e =
       inp = and-right (m && c) v e;
     }
 
-pub says-block : (limits : List ℕ) (b : Block) → BlockIn limits b → blockFits limits b ≡ true
+pub says-block : (limits : List ℕ) (b : Block) → BlockIn limits b → blockFits (valueFits limits) b ≡ true
 unfolding blockFits
 says-block limits b s =
     and-intro (ballotFits (b .mbal) && ballotFits (b .bal)) (valueFits limits (b .inp))

@@ -1,5 +1,5 @@
 -- Cells in range (SPEC, "The room in memory"): refusal 3 says that they are not.
-use Prim.Native.Nat.{ℕ, _*_, _/_, _%_}
+use Prim.Native.Nat.{ℕ, _+_, _*_, _/_, _%_}
 use mathlib.Core.Bool.{Bool, _&&_, _||_}
 use mathlib.Core.List.{List}
 use lib.ListN.{length}
@@ -10,7 +10,7 @@ use Rattle.state.specs.Block.{ballotFits}
 use Rattle.state.specs.declared.Block.{Block}
 use Rattle.state.specs.declared.Server.{Server}
 use Rattle.state.specs.declared.Sizes.{Sizes}
-use Rattle.layout.specs.Places.{base, sizesFit, roomLength, nthBlockAt}
+use Rattle.layout.specs.Places.{base, blockLength, sizesFit, roomLength, nthBlockAt}
 use Rattle.layout.specs.Cells.{sizesOf, offOf, limitsOf, serverOf, blockIn}
 use Rattle.range.specs.declared.Masks.{Masks}
 
@@ -39,25 +39,32 @@ numbersFit k v =
     && within (v .written) (k .drives)
     && within (v .read) (k .reads)
 
--- one server record
-unfoldable pub serverFits : List ℕ → Masks → Server → Bool
-serverFits limits k v =
-    numbersFit k v && valueFits limits (v .inp) && valueFits limits (v .offer) && valueFits limits (v .seeninp)
+-- one server record; value says what a cell that holds a command may hold
+unfoldable pub serverFits : (ℕ → Bool) → Masks → Server → Bool
+serverFits value k v = numbersFit k v && value (v .inp) && value (v .offer) && value (v .seeninp)
+
+-- the ballots of a block
+abbrev pub ballotsFit : Block → Bool
+ballotsFit b = ballotFits (b .mbal) && ballotFits (b .bal)
 
 -- one block
-unfoldable pub blockFits : List ℕ → Block → Bool
-blockFits limits b = ballotFits (b .mbal) && ballotFits (b .bal) && valueFits limits (b .inp)
+unfoldable pub blockFits : (ℕ → Bool) → Block → Bool
+blockFits value b = ballotsFit b && value (b .inp)
+
+-- n blocks that stand one after the other from a cell on
+unfoldable pub blocksFrom : (ℕ → Bool) → List ℕ → ℕ → ℕ → Bool
+blocksFrom value cells first n = allBelow n (λ j. blockFits value (blockIn cells (first + blockLength * j)))
 
 -- every server record of slot s
-unfoldable pub serversFit : List ℕ → Sizes → List ℕ → ℕ → Bool
-serversFit limits z cells s = allBelow (z .servers) (λ p. serverFits limits (masksOf z) (serverOf z cells s p))
+unfoldable pub serversFit : (ℕ → Bool) → Sizes → List ℕ → ℕ → Bool
+serversFit value z cells s = allBelow (z .servers) (λ p. serverFits value (masksOf z) (serverOf z cells s p))
 
 -- every block of slot s
-unfoldable pub blocksFit : List ℕ → Sizes → List ℕ → ℕ → Bool
-blocksFit limits z cells s = allBelow (z .drives * z .servers) (λ j. blockFits limits (blockIn cells (nthBlockAt z s j)))
+unfoldable pub blocksFit : (ℕ → Bool) → Sizes → List ℕ → ℕ → Bool
+blocksFit value z cells s = allBelow (z .drives * z .servers) (λ j. blockFits value (blockIn cells (nthBlockAt z s j)))
 
-unfoldable pub slotFits : List ℕ → Sizes → List ℕ → ℕ → Bool
-slotFits limits z cells s = serversFit limits z cells s && blocksFit limits z cells s
+unfoldable pub slotFits : (ℕ → Bool) → Sizes → List ℕ → ℕ → Bool
+slotFits value z cells s = serversFit value z cells s && blocksFit value z cells s
 
 -- the cells of a row of these sizes
 unfoldable pub cellsFit : List ℕ → Sizes → List ℕ → Bool
@@ -65,7 +72,7 @@ cellsFit limits z cells =
     sizesFit z
     && eqb (length cells) (roomLength z)
     && within (offOf cells) (legalDrives z)
-    && allBelow (z .slots) (slotFits limits z cells)
+    && allBelow (z .slots) (slotFits (valueFits limits) z cells)
 
 -- a row that is a room with every cell in range
 unfoldable pub inRange : List ℕ → Bool

@@ -1,12 +1,15 @@
 // The range rule: whether a row of cells is a room with every cell in range.
 ghost use mathlib.Core.Path.{_≡_};
+ghost use mathlib.Core.Bool.{_&&_};
 ghost use Prim.Native.Nat.{_+_, _*_, _<_, _≤_};
 ghost use lib.ListN.{length};
+ghost use Rattle.command.specs.Tops.{valueBy};
 ghost use Rattle.quorum.specs.Sets.{allBelow};
 ghost use Rattle.layout.specs.Places.{serverLength, blockLength, Fit, Row};
-ghost use Rattle.layout.specs.Cells.{serverIn, blockIn};
-ghost use Rattle.range.specs.Range.{masksOf, valueFits, numbersFit, serverFits, blockFits, slotFits, inRange};
-use command::is_command;
+ghost use Rattle.layout.specs.Cells.{serverIn};
+ghost use Rattle.range.specs.Range.{masksOf, numbersFit, serverFits, ballotsFit, blockFits, blocksFrom, slotFits, inRange};
+use command::is_value;
+use command::tops_of;
 use layout::block_in;
 use layout::room_length;
 use layout::server_in;
@@ -54,12 +57,14 @@ pub fn in_range(room: &[u32]) -> bool
     if !only_legal(room[layout::OFF], k.drives) {
         return false;
     }
-    slots_fit(room, &limits, z, k)
+    let tops = tops_of(&limits);
+    slots_fit(room, &tops, z, k)
 }
 
-fn slots_fit(room: &[u32], limits: &[u32; 8], z: Sizes, k: Masks) -> bool
+// Every slot. The table judges the values, by the room's limits.
+fn slots_fit(room: &[u32], tops: &[u8; 96], z: Sizes, k: Masks) -> bool
     requires { ⌜ Row z (now room) × (k ≡ masksOf z) ⌝ }
-    ensures { λ r. ⌜ r ≡ allBelow (z .slots) (slotFits (now (limits .entry)) z (now (room .entry))) ⌝ }
+    ensures { λ r. ⌜ r ≡ allBelow (z .slots) (slotFits (valueBy (now (tops .entry))) z (now (room .entry))) ⌝ }
 {
     let servers = z.servers as usize;
     let blocks = (z.drives as usize) * servers;
@@ -67,10 +72,10 @@ fn slots_fit(room: &[u32], limits: &[u32; 8], z: Sizes, k: Masks) -> bool
     let mut s = 0;
     while s < (z.slots as usize) {
         let at = layout::BASE + s * length;
-        if !servers_fit(room, limits, k, at, servers) {
+        if !servers_fit(room, tops, k, at, servers) {
             return false;
         }
-        if !blocks_fit(room, limits, at + layout::SERVER_CELLS * servers, blocks) {
+        if !blocks_fit(room, tops, at + layout::SERVER_CELLS * servers, blocks) {
             return false;
         }
         s += 1;
@@ -79,13 +84,13 @@ fn slots_fit(room: &[u32], limits: &[u32; 8], z: Sizes, k: Masks) -> bool
 }
 
 // The server records that stand one after the other from a cell on.
-fn servers_fit(room: &[u32], limits: &[u32; 8], k: Masks, first: usize, count: usize) -> bool
+fn servers_fit(room: &[u32], tops: &[u8; 96], k: Masks, first: usize, count: usize) -> bool
     requires { ⌜ first + serverLength * count ≤ length (now room) ⌝ }
-    ensures { λ r. ⌜ r ≡ allBelow count (λ p. serverFits (now (limits .entry)) k (serverIn (now (room .entry)) (first + serverLength * p))) ⌝ }
+    ensures { λ r. ⌜ r ≡ allBelow count (λ p. serverFits (valueBy (now (tops .entry))) k (serverIn (now (room .entry)) (first + serverLength * p))) ⌝ }
 {
     let mut p = 0;
     while p < count {
-        if !server_fits(limits, k, server_in(room, first + layout::SERVER_CELLS * p)) {
+        if !server_fits(tops, k, server_in(room, first + layout::SERVER_CELLS * p)) {
             return false;
         }
         p += 1;
@@ -93,14 +98,41 @@ fn servers_fit(room: &[u32], limits: &[u32; 8], k: Masks, first: usize, count: u
     true
 }
 
-// The blocks that stand one after the other from a cell on.
-fn blocks_fit(room: &[u32], limits: &[u32; 8], first: usize, count: usize) -> bool
+// The blocks that stand one after the other from a cell on: four at a time, whose ballots the back end compares as
+// vectors, then the rest one by one.
+fn blocks_fit(room: &[u32], tops: &[u8; 96], first: usize, count: usize) -> bool
     requires { ⌜ first + blockLength * count ≤ length (now room) ⌝ }
-    ensures { λ r. ⌜ r ≡ allBelow count (λ j. blockFits (now (limits .entry)) (blockIn (now (room .entry)) (first + blockLength * j))) ⌝ }
+    ensures { λ r. ⌜ r ≡ blocksFrom (valueBy (now (tops .entry))) (now (room .entry)) first count ⌝ }
+{
+    let fours = count / 4;
+    if !fours_fit(room, tops, first, fours) {
+        return false;
+    }
+    let rest = first + layout::BLOCK_CELLS * (4 * fours);
+    rest_fit(room, tops, rest, count % 4)
+}
+
+fn fours_fit(room: &[u32], tops: &[u8; 96], first: usize, count: usize) -> bool
+    requires { ⌜ first + blockLength * (4 * count) ≤ length (now room) ⌝ }
+    ensures { λ r. ⌜ r ≡ allBelow count (λ q. blocksFrom (valueBy (now (tops .entry))) (now (room .entry)) (first + blockLength * (4 * q)) 4) ⌝ }
+{
+    let mut q = 0;
+    while q < count {
+        if !four_fit(room, tops, first + layout::BLOCK_CELLS * (4 * q)) {
+            return false;
+        }
+        q += 1;
+    }
+    true
+}
+
+fn rest_fit(room: &[u32], tops: &[u8; 96], first: usize, count: usize) -> bool
+    requires { ⌜ first + blockLength * count ≤ length (now room) ⌝ }
+    ensures { λ r. ⌜ r ≡ blocksFrom (valueBy (now (tops .entry))) (now (room .entry)) first count ⌝ }
 {
     let mut j = 0;
     while j < count {
-        if !block_fits(limits, block_in(room, first + layout::BLOCK_CELLS * j)) {
+        if !block_fits(tops, block_in(room, first + layout::BLOCK_CELLS * j)) {
             return false;
         }
         j += 1;
@@ -108,20 +140,14 @@ fn blocks_fit(room: &[u32], limits: &[u32; 8], first: usize, count: usize) -> bo
     true
 }
 
-// One server record. The numbers are judged together; a command, which is rare, only where a cell is not 0.
-fn server_fits(limits: &[u32; 8], k: Masks, v: Server) -> bool
-    ensures { λ r. ⌜ r ≡ serverFits (now (limits .entry)) k v ⌝ }
+// One server record. Its numbers are judged together, then its three values, with 0 as a fourth.
+fn server_fits(tops: &[u8; 96], k: Masks, v: Server) -> bool
+    ensures { λ r. ⌜ r ≡ serverFits (valueBy (now (tops .entry))) k v ⌝ }
 {
     if !numbers_fit(k, v) {
         return false;
     }
-    if !value_fits(limits, v.inp) {
-        return false;
-    }
-    if !value_fits(limits, v.offer) {
-        return false;
-    }
-    value_fits(limits, v.seeninp)
+    values_fit(tops, v.inp, v.offer, v.seeninp, 0)
 }
 
 fn numbers_fit(k: Masks, v: Server) -> bool
@@ -136,22 +162,52 @@ fn numbers_fit(k: Masks, v: Server) -> bool
         & only_legal(v.read, k.reads)
 }
 
-// One block.
-fn block_fits(limits: &[u32; 8], b: Block) -> bool
-    ensures { λ r. ⌜ r ≡ blockFits (now (limits .entry)) b ⌝ }
+// Four blocks. Their ballots are judged together, then their values.
+fn four_fit(room: &[u32], tops: &[u8; 96], at: usize) -> bool
+    requires { ⌜ at + blockLength * 4 ≤ length (now room) ⌝ }
+    ensures { λ r. ⌜ r ≡ blocksFrom (valueBy (now (tops .entry))) (now (room .entry)) at 4 ⌝ }
 {
-    if !(Block::ballot_fits(b.mbal) & Block::ballot_fits(b.bal)) {
+    let a = block_in(room, at);
+    let b = block_in(room, at + layout::BLOCK_CELLS);
+    let c = block_in(room, at + layout::BLOCK_CELLS * 2);
+    let d = block_in(room, at + layout::BLOCK_CELLS * 3);
+    if !(ballots_fit(a) & ballots_fit(b) & ballots_fit(c) & ballots_fit(d)) {
         return false;
     }
-    value_fits(limits, b.inp)
+    values_fit(tops, a.inp, b.inp, c.inp, d.inp)
 }
 
-// 0 or a command.
-fn value_fits(limits: &[u32; 8], v: u32) -> bool
-    ensures { λ r. ⌜ r ≡ valueFits (now (limits .entry)) v ⌝ }
+// One block.
+fn block_fits(tops: &[u8; 96], b: Block) -> bool
+    ensures { λ r. ⌜ r ≡ blockFits (valueBy (now (tops .entry))) b ⌝ }
 {
-    if v == 0 {
+    if !ballots_fit(b) {
+        return false;
+    }
+    is_value(tops, b.inp)
+}
+
+fn ballots_fit(b: Block) -> bool
+    ensures { λ r. ⌜ r ≡ ballotsFit b ⌝ }
+{
+    Block::ballot_fits(b.mbal) & Block::ballot_fits(b.bal)
+}
+
+// Four values. In most rooms most are 0, which one test finds.
+fn values_fit(tops: &[u8; 96], a: u32, b: u32, c: u32, d: u32) -> bool
+    ensures { λ r. ⌜ r ≡ (valueBy (now (tops .entry)) a && valueBy (now (tops .entry)) b && valueBy (now (tops .entry)) c && valueBy (now (tops .entry)) d) ⌝ }
+{
+    if (a | b | c | d) == 0 {
         return true;
     }
-    is_command(limits, v)
+    if !is_value(tops, a) {
+        return false;
+    }
+    if !is_value(tops, b) {
+        return false;
+    }
+    if !is_value(tops, c) {
+        return false;
+    }
+    is_value(tops, d)
 }

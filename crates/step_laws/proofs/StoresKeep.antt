@@ -16,7 +16,7 @@ use Rattle.layout.specs.Places.{nthBlockAt, blockAt}
 use Rattle.layout.specs.Cells.{sizesOf, offAt, serverOf, blockOf, blockIn, putServer, putBlock}
 use Rattle.layout.proofs.PlaceLaws.{base-room}
 use Rattle.layout.proofs.RoomLaws.{server-row, server-sizes, server-off, server-after-server, other-server-after-server, nth-after-server, block-row, block-sizes, block-off, block-after-block, other-nth-after-block, server-after-block, off-row, off-sizes, server-after-off, nth-after-off}
-use Rattle.range.specs.Range.{legalDrives, masksOf, serverFits, blockFits}
+use Rattle.range.specs.Range.{legalDrives, masksOf, valueFits, serverFits, blockFits}
 use Rattle.range.proofs.Laws.{InRange}
 use Rattle.range.proofs.RecordLaws.{ServerIn, BlockIn, says-server, says-block}
 use Rattle.room.specs.Step.{failedBelow}
@@ -51,17 +51,17 @@ module _ (limits : List ℕ) (z : Sizes) where
                   λ t q k m.
                   by-place s t p q
                   (λ a b.
-                  ap (λ (u : Server). serverFits limits (masksOf z) u)
+                  ap (λ (u : Server). serverFits (valueFits limits) (masksOf z) u)
                   (ap (λ (x : ℕ). serverOf z (putServer z r s p v) x q) (sym a)
                   ∙ ap (serverOf z (putServer z r s p v) s) (sym b)
                   ∙ server-after-server z r row s p v h l)
                   ∙ says-server limits (masksOf z) v i)
                   (λ n.
-                  ap (λ (u : Server). serverFits limits (masksOf z) u) (other-server-after-server z r row s p v t q l m n)
+                  ap (λ (u : Server). serverFits (valueFits limits) (masksOf z) u) (other-server-after-server z r row s p v t q l m n)
                   ∙ w .range .servers t q k m);
               nths =
                   λ t j k m.
-                  ap (blockFits limits) (nth-after-server z r row s p v t j l m) ∙ w .range .nths t j k m;
+                  ap (blockFits (valueFits limits)) (nth-after-server z r row s p v t j l m) ∙ w .range .nths t j k m;
             };
         sizes = server-sizes z r row s p v ∙ w .sizes;
       }
@@ -79,19 +79,19 @@ module _ (limits : List ℕ) (z : Sizes) where
               off = ap (λ (m : ℕ). within m (legalDrives z)) (block-off z r row s d p b) ∙ w .range .off;
               servers =
                   λ t q m n.
-                  ap (λ (u : Server). serverFits limits (masksOf z) u) (server-after-block z r row s d p b t q n l k)
+                  ap (λ (u : Server). serverFits (valueFits limits) (masksOf z) u) (server-after-block z r row s d p b t q n l k)
                   ∙ w .range .servers t q m n;
               nths =
                   λ t j m n.
                   by-place s t (d * z .servers + p) j
                   (λ e f.
-                  ap (blockFits limits)
+                  ap (blockFits (valueFits limits))
                   (ap (λ (x : ℕ). blockIn (putBlock z r s d p b) (nthBlockAt z x j)) (sym e)
                   ∙ ap (λ (x : ℕ). blockIn (putBlock z r s d p b) (nthBlockAt z s x)) (sym f)
                   ∙ block-after-block z r row s d p b h l k)
                   ∙ says-block limits b i)
                   (λ e.
-                  ap (blockFits limits) (other-nth-after-block z r row s d p b t j l k n e) ∙ w .range .nths t j m n);
+                  ap (blockFits (valueFits limits)) (other-nth-after-block z r row s d p b t j l k n e) ∙ w .range .nths t j m n);
             };
         sizes = block-sizes z r row s d p b ∙ w .sizes;
       }
@@ -109,8 +109,8 @@ module _ (limits : List ℕ) (z : Sizes) where
                   ∙ i;
               servers =
                   λ t q h l.
-                  ap (λ (u : Server). serverFits limits (masksOf z) u) (server-after-off z r row m t q) ∙ w .range .servers t q h l;
-              nths = λ t j h l. ap (blockFits limits) (nth-after-off z r row m t j) ∙ w .range .nths t j h l;
+                  ap (λ (u : Server). serverFits (valueFits limits) (masksOf z) u) (server-after-off z r row m t q) ∙ w .range .servers t q h l;
+              nths = λ t j h l. ap (blockFits (valueFits limits)) (nth-after-off z r row m t j) ∙ w .range .nths t j h l;
             };
         sizes = off-sizes z r row m ∙ w .sizes;
       }

@@ -3,17 +3,17 @@ use borrow.Author.Needs.{needs}
 use Rattle.drives.proofs.others_read.Statement.{statement}
 use Rattle.drives.proofs.others_read.Tie as tie
 use native.Mathlib.Omega.{arith}
-use Prim.Native.Nat.{ℕ, _≤_, _-_}
-use mathlib.Core.Path.{_≡_, _∙_, sym, ap}
-use mathlib.Core.Bool.{Bool, true, _||_}
+use Prim.Native.Nat.{ℕ, _-_}
+use mathlib.Core.Path.{_≡_, _∙_, ap}
+use mathlib.Core.Bool.{Bool, _||_}
 use lib.Dec.{eqb}
 use Rattle.lemmas.proofs.Tests.{holds, lacks}
 use Rattle.quorum.specs.Marks.{stands}
-use Rattle.quorum.proofs.AllBelow.{all-none, all-more, all-fails}
-use Rattle.synod.specs.Rules.{othersRead, otherRead}
+use Rattle.quorum.proofs.AllBelow.{Passed, loop-begins, loop-goes-on, loop-returns, loop-ends}
+use Rattle.synod.specs.Rules.{otherRead}
 
 abbrev Inv-loop : tie.InvT-loop
-Inv-loop servers v p d q₀ q = (q ≤ servers) × (othersRead q v p d ≡ true)
+Inv-loop servers v p d q₀ q = Passed servers (otherRead v p d) q
 
 abbrev μ-loop : tie.MeasureT-loop
 μ-loop servers v p d q₀ q = servers - q
@@ -32,23 +32,26 @@ tested c =
     (c .has-mark .ensures ∙ ap (stands (at .before .args .v .read)) (c .before .read-bit .ensures))
 
 loop-holds : tie.Need-loop-holds Inv-loop μ-loop
-loop-holds c = (search needs, all-none (asked c))
+loop-holds c = loop-begins (c .args .servers) (asked c)
 
 returns : tie.Need-returns Inv-loop μ-loop
 returns c =
     let in-loop = c .before .before .before in
     let at = in-loop .before in
-    sym (all-fails (at .before .args .servers) (asked (at .before)) (at .loop .q) (in-loop .loop-test .taken)
-    (lacks (tested (c .before)) (c .if1 .taken)))
+    loop-returns (at .before .args .servers) (asked (at .before)) (at .loop .q) (in-loop .loop-test .taken)
+    (lacks (tested (c .before)) (c .if1 .taken))
 
 loop-again : tie.Need-loop-again Inv-loop μ-loop
 loop-again c =
-    let at = c .before .before .before .before in
-    (search needs, all-more (at .loop .q) (asked (at .before)) (at .loop .inv .1) (holds (tested (c .before)) (c .if1 .left)))
+    let in-loop = c .before .before .before in
+    let at = in-loop .before in
+    loop-goes-on (at .before .args .servers) (asked (at .before)) (at .loop .q) (at .loop .inv) (in-loop .loop-test .taken)
+    (holds (tested (c .before)) (c .if1 .left))
 
 returns-2 : tie.Need-returns-2 Inv-loop μ-loop
 returns-2 c =
-    let e : c .before .loop .q ≡ c .before .before .args .servers = omega arith in rw e at (sym (c .before .loop .inv .1))
+    let at = c .before in
+    loop-ends (at .before .args .servers) (asked (at .before)) (at .loop .q) (at .loop .inv) (omega arith)
 
 pub others-read-spec : {M : Type 1} → statement M
 others-read-spec =

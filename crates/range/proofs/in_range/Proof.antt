@@ -4,19 +4,21 @@ use Rattle.range.proofs.in_range.Statement.{statement}
 use Rattle.range.proofs.in_range.Tie as tie
 use Prim.Native.Nat.{ℕ}
 use mathlib.Core.Path.{_≡_, _∙_, sym, ap}
-use mathlib.Core.Bool.{true}
+use mathlib.Core.Bool.{Bool, true}
 use mathlib.Core.List.{List}
 use native.Mathlib.Omega.{arith}
 use borrow.Author.Tests.{not-true, not-false, eq-eqb, ne-eqb}
 use lib.ListN.{length}
-use Rattle.quorum.specs.Sets.{within}
+use Rattle.command.specs.Tops.{valueBy}
+use Rattle.quorum.specs.Sets.{allBelow, within}
 use Rattle.state.specs.declared.Sizes.{Sizes}
 use Rattle.layout.specs.Places.{sizesFit, roomLength}
 use Rattle.layout.specs.Cells.{offOf}
 use Rattle.layout.proofs.PlaceLaws.{fit-of}
 use Rattle.range.specs.declared.Masks.{Masks}
-use Rattle.range.specs.Range.{legalDrives, cellsFit, inRange}
+use Rattle.range.specs.Range.{legalDrives, slotFits, cellsFit, inRange}
 use Rattle.range.proofs.Laws.{short-row, row-of, no-sizes, no-length, no-off, then-slots}
+use Rattle.range.proofs.Together.{by-table}
 
 -- the row, and the limits and sizes that the code has read of it
 abbrev row : tie.After-sizes → List ℕ
@@ -31,6 +33,10 @@ sizes c = c .sizes .result
 claimed : (c : tie.After-sizes) → inRange (row c) ≡ cellsFit (limits c) (sizes c) (row c)
 claimed c =
     row-of (limits c) (sizes c) (row c) (c .before .limits .ensures) (c .sizes .ensures) (c .before .before .if1 .left)
+
+-- the slots of the row by a test of values
+abbrev slots : tie.After-sizes → (ℕ → Bool) → Bool
+slots c value = allBelow (sizes c .slots) (slotFits value (sizes c) (row c))
 
 -- what each test has said where the code goes on, and the place before it
 abbrev sized : tie.Else2 → tie.After-sizes
@@ -99,20 +105,20 @@ returns-4 c =
 
 slots-fit-requires : tie.Need-slots-fit-requires
 slots-fit-requires c κs =
-    let l = long (c .before .before) in
+    let l = long (c .before .before .before .before) in
     let fit = fit-of (sizes (sized (fitting l))) (fits (fitting l)) in
-    (record { fit = fit; exact = exact l }, c .before .before .before .before .masks-of .ensures)
+    (record { fit = fit; exact = exact l }, c .before .before .before .before .before .before .masks-of .ensures)
 
 returns-5 : tie.Need-returns-5
 returns-5 c =
-    let legal = c .before .before .before in
+    let legal = c .before .before .before .before .before in
     let l = long legal in
     let s = sized (fitting l) in
     then-slots (limits s) (sizes s) (row s) (c .slots-fit .result)
     (fits (fitting l))
     (eq-eqb _ _ (exact l))
-    (sym (off legal) ∙ not-false _ (c .before .before .if4 .left))
-    (c .slots-fit .ensures)
+    (sym (off legal) ∙ not-false _ (c .before .before .before .before .if4 .left))
+    (c .slots-fit .ensures ∙ ap (slots s) (ap valueBy (c .before .before .tops-of .ensures) ∙ by-table (limits s)))
     ∙ sym (claimed s)
 
 pub in-range-spec : {M : Type 1} → statement M
@@ -130,5 +136,6 @@ in-range-spec =
     shared-slice-read-only-legal
     only-legal-requires
     returns-4
+    (search needs)
     slots-fit-requires
     returns-5)

@@ -4,26 +4,26 @@ use Rattle.range.proofs.slots_fit.Statement.{statement}
 use Rattle.range.proofs.slots_fit.Tie as tie
 use native.Mathlib.Omega.{arith}
 use Prim.Native.Nat.{ℕ, _+_, _*_, _≤_, _-_}
-use mathlib.Core.Path.{_≡_, _∙_, sym, ap, ap₂}
-use mathlib.Core.Bool.{Bool, true}
+use mathlib.Core.Path.{_≡_, _∙_, ap, ap₂}
+use mathlib.Core.Bool.{Bool}
 use mathlib.Core.List.{List}
-use borrow.Author.Tests.{not-true, not-false}
 use lib.ListN.{length}
-use Rattle.lemmas.proofs.Tests.{and-intro, none-left, none-right}
+use Rattle.lemmas.proofs.Tests.{holds, lacks, and-intro, none-left, none-right}
+use Rattle.command.specs.Tops.{valueBy}
 use Rattle.quorum.specs.Sets.{allBelow}
-use Rattle.quorum.proofs.AllBelow.{all-none, all-more, all-fails}
+use Rattle.quorum.proofs.AllBelow.{Passed, loop-begins, loop-goes-on, loop-returns, loop-ends}
 use Rattle.state.specs.declared.Sizes.{Sizes}
 use Rattle.layout.specs.Places.{base, serverLength, blockLength, longestSlot, slotLength, serverAt, slotAt, nthBlockAt, Fit}
-use Rattle.layout.specs.Cells.{serverIn, serverOf, blockIn}
+use Rattle.layout.specs.Cells.{serverIn, serverOf}
 use Rattle.layout.proofs.PlaceLaws.{blocks-bound, slots-small, slot-within}
-use Rattle.range.specs.Range.{serverFits, blockFits, serversFit, blocksFit, slotFits}
+use Rattle.range.specs.Range.{serverFits, blocksFrom, serversFit, blocksFit, slotFits}
 use Rattle.range.specs.declared.Masks.{Masks}
 
 abbrev Inv-loop : tie.InvT-loop
-Inv-loop room limits z k servers blocks length s₀ s = (s ≤ z .slots) × (allBelow s (slotFits limits z room) ≡ true)
+Inv-loop room tops z k servers blocks length s₀ s = Passed (z .slots) (slotFits (valueBy tops) z room) s
 
 abbrev μ-loop : tie.MeasureT-loop
-μ-loop room limits z k servers blocks length s₀ s = z .slots - s
+μ-loop room tops z k servers blocks length s₀ s = z .slots - s
 
 -- the start of the call, and the test of one slot
 abbrev Start : Type 0
@@ -33,7 +33,7 @@ fit : (c : Start) → Fit (c .args .z)
 fit c = c .pre .0 .fit
 
 abbrev fits : Start → ℕ → Bool
-fits c = slotFits (c .args .limits .now) (c .args .z) (c .args .room .now)
+fits c = slotFits (valueBy (c .args .tops .now)) (c .args .z) (c .args .room .now)
 
 -- a turn of the loop: what it was called with, its slot, and the length that was computed for a slot
 abbrev Turn : Type 0
@@ -42,8 +42,8 @@ Turn = tie.Then1 Inv-loop μ-loop
 abbrev start : Turn → Start
 start c = c .before .before .before .before .before .before .before
 
-abbrev limits : Turn → List ℕ
-limits c = start c .args .limits .now
+abbrev value : Turn → ℕ → Bool
+value c = valueBy (start c .args .tops .now)
 
 abbrev sizes : Turn → Sizes
 sizes c = start c .args .z
@@ -74,20 +74,19 @@ inside c =
 
 -- the two parts of the slot, and how a turn judges them: by the masks and the length that it has
 abbrev servers : Turn → Bool
-servers c = serversFit (limits c) (sizes c) (row c) (slot c)
+servers c = serversFit (value c) (sizes c) (row c) (slot c)
 
 abbrev servers-by : Turn → Masks → ℕ → Bool
 servers-by c k l =
     allBelow (sizes c .servers)
-    (λ p. serverFits (limits c) k (serverIn (row c) (base + slot c * l + serverLength * p)))
+    (λ p. serverFits (value c) k (serverIn (row c) (base + slot c * l + serverLength * p)))
 
 abbrev blocks : Turn → Bool
-blocks c = blocksFit (limits c) (sizes c) (row c) (slot c)
+blocks c = blocksFit (value c) (sizes c) (row c) (slot c)
 
 abbrev blocks-by : Turn → ℕ → Bool
 blocks-by c l =
-    allBelow (sizes c .drives * sizes c .servers)
-    (λ j. blockFits (limits c) (blockIn (row c) (base + slot c * l + serverLength * sizes c .servers + blockLength * j)))
+    blocksFrom (value c) (row c) (base + slot c * l + serverLength * sizes c .servers) (sizes c .drives * sizes c .servers)
 
 servers-judged : (c : tie.After-servers-fit Inv-loop μ-loop) → c .servers-fit .result ≡ servers (c .before)
 unfolding serversFit serverOf serverAt slotAt
@@ -98,7 +97,7 @@ abbrev turn : tie.After-blocks-fit Inv-loop μ-loop → Turn
 turn c = c .before .before .before
 
 blocks-judged : (c : tie.After-blocks-fit Inv-loop μ-loop) → c .blocks-fit .result ≡ blocks (turn c)
-unfolding blocksFit nthBlockAt slotAt
+unfolding blocksFit blocksFrom nthBlockAt slotAt
 blocks-judged c = c .blocks-fit .ensures ∙ ap (blocks-by (turn c)) (long-is (turn c))
 
 cast-servers : tie.Need-cast-servers Inv-loop μ-loop
@@ -114,7 +113,7 @@ slot-length-requires : tie.Need-slot-length-requires Inv-loop μ-loop
 slot-length-requires c κs = fit (c .before .before .before)
 
 loop-holds : tie.Need-loop-holds Inv-loop μ-loop
-loop-holds c = (omega arith, all-none (fits (c .before .before .before .before)))
+loop-holds c = let at = c .before .before .before .before in loop-begins (at .args .z .slots) (fits at)
 
 cast-if1 : tie.Need-cast-if1 Inv-loop μ-loop
 cast-if1 c = search needs
@@ -132,9 +131,8 @@ returns : tie.Need-returns Inv-loop μ-loop
 unfolding slotFits
 returns c =
     let t = c .before .before in
-    sym
-    (all-fails (sizes t .slots) (fits (start t)) (slot t) (t .if1 .taken)
-    (none-left (servers t) (blocks t) (sym (servers-judged (c .before)) ∙ not-true _ (c .if2 .taken))))
+    loop-returns (sizes t .slots) (fits (start t)) (slot t) (t .if1 .taken)
+    (none-left (servers t) (blocks t) (lacks (servers-judged (c .before)) (c .if2 .taken)))
 
 mul-blocks-fit : tie.Need-mul-blocks-fit Inv-loop μ-loop
 mul-blocks-fit c = omega (arith, fit (start (c .before .before)))
@@ -149,9 +147,8 @@ returns-2 : tie.Need-returns-2 Inv-loop μ-loop
 unfolding slotFits
 returns-2 c =
     let t = turn (c .before) in
-    sym
-    (all-fails (sizes t .slots) (fits (start t)) (slot t) (t .if1 .taken)
-    (none-right (servers t) (blocks t) (sym (blocks-judged (c .before)) ∙ not-true _ (c .if3 .taken))))
+    loop-returns (sizes t .slots) (fits (start t)) (slot t) (t .if1 .taken)
+    (none-right (servers t) (blocks t) (lacks (blocks-judged (c .before)) (c .if3 .taken)))
 
 add-s : tie.Need-add-s Inv-loop μ-loop
 add-s c = omega (arith, fit (start (turn (c .before))))
@@ -163,17 +160,16 @@ loop-again : tie.Need-loop-again Inv-loop μ-loop
 unfolding slotFits
 loop-again c =
     let t = turn (c .before) in
-    let both =
-    and-intro (servers t) (blocks t)
-    (sym (servers-judged (c .before .before .before)) ∙ not-false _ (c .before .before .if2 .left))
-    (sym (blocks-judged (c .before)) ∙ not-false _ (c .if3 .left)) in
-    (omega arith, all-more (slot t) (fits (start t)) (t .before .before .loop .inv .1) both)
+    loop-goes-on (sizes t .slots) (fits (start t)) (slot t) (t .before .before .loop .inv) (t .if1 .taken)
+    (and-intro (servers t) (blocks t)
+    (holds (servers-judged (c .before .before .before)) (c .before .before .if2 .left))
+    (holds (blocks-judged (c .before)) (c .if3 .left)))
 
 returns-3 : tie.Need-returns-3 Inv-loop μ-loop
 returns-3 c =
+    let at = c .before .before .before .before .before .before .before in
     let loop = c .before .before .loop in
-    let e : loop .s ≡ c .before .before .before .before .before .before .before .args .z .slots = omega arith in
-    rw e at (sym (loop .inv .1))
+    loop-ends (at .args .z .slots) (fits at) (loop .s) (loop .inv) (omega arith)
 
 pub slots-fit-spec : {M : Type 1} → statement M
 slots-fit-spec =
