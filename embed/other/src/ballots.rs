@@ -20,3 +20,9 @@ pub fn least_own_above(found: u32, server: u32, servers: u32) -> Option<u32> {
     let ballot = found + 1 + away;
     (ballot <= BALLOT_LIMIT).then_some(ballot)
 }
+
+/// Whether a cell that holds a ballot or none is in range.
+#[inline]
+pub(crate) fn is_ballot_or_none(value: u32) -> bool {
+    value <= BALLOT_LIMIT
+}

@@ -1,7 +1,7 @@
 //! What a command is: kind, piece, hoard and the limits of the cabinets.
 
 /// The largest hoard of each cabinet.
-const LIMITS: [u32; 8] = [255, 255, 200, 200, 120, 120, 60, 60];
+const LIMITS: [u8; 8] = [255, 255, 200, 200, 120, 120, 60, 60];
 
 /// What a command asks for a piece.
 #[derive(Clone, Copy, Debug, PartialEq, Eq)]
@@ -35,21 +35,32 @@ pub(crate) fn hoard(value: u32) -> u32 {
 }
 
 /// The largest hoard of the cabinet of a piece, which is at most 63.
-#[inline]
 pub(crate) fn limit(piece: u32) -> u32 {
-    LIMITS[(piece / 8) as usize]
+    LIMITS[piece as usize / 8].into()
 }
+
+/// The first hoard that a command may have, and the number of hoards, at
+/// 256 * kind + piece. One look serves all kinds, without a branch for each.
+const HOARDS: [(u8, u8); 1024] = {
+    let mut hoards = [(0, 0); 1024];
+    let mut at = 0;
+    while at < hoards.len() {
+        hoards[at] = match (at / 256, at % 256) {
+            (1 | 2, piece @ 0..64) => (1, LIMITS[piece / 8]),
+            (3, 0..64) => (0, 1),
+            _ => (0, 0),
+        };
+        at += 1;
+    }
+    hoards
+};
 
 /// Whether `value` is a command.
 #[inline]
 pub fn is_command(value: u32) -> bool {
-    let piece = piece(value);
-    if piece > 63 {
-        return false;
-    }
-    match kind(value) {
-        Some(Kind::Enter | Kind::Move) => (1..=limit(piece)).contains(&hoard(value)),
-        Some(Kind::Strike) => hoard(value) == 0,
+    match HOARDS.get((value >> 8) as usize) {
+        // The hoard is one of first, first + 1, ..., first + many - 1.
+        Some(&(first, many)) => (value as u8).wrapping_sub(first) < many,
         None => false,
     }
 }

@@ -1,6 +1,6 @@
 //! The room: its sizes, where its parts stand, the range of its cells, open.
 
-use crate::ballots::BALLOT_LIMIT;
+use crate::ballots::is_ballot_or_none;
 use crate::commands::is_command_or_none;
 use crate::refusal;
 
@@ -95,39 +95,41 @@ pub fn judge(row: &[u32]) -> Option<Sizes> {
         return None;
     };
     let sizes = Sizes::fit(servers, drives, slots)?;
-    let written = sizes.drive_marks();
-    let read = sizes.read_marks();
-    if row.len() != sizes.length() || off & !written != 0 {
+    let (drive_marks, read_marks) = (sizes.drive_marks(), sizes.read_marks());
+    if row.len() != sizes.length() || off & !drive_marks != 0 {
         return None;
     }
-    for slot in cells.chunks_exact(sizes.slot_length()) {
+    let in_range = cells.chunks_exact(sizes.slot_length()).all(|slot| {
         let (records, blocks) = slot.split_at(RECORD * sizes.servers);
-        let mut records = records.chunks_exact(RECORD);
-        let mut blocks = blocks.chunks_exact(BLOCK);
-        if !records.all(|record| record_in_range(record, written, read))
-            || !blocks.all(block_in_range)
-        {
-            return None;
-        }
-    }
-    Some(sizes)
+        let (records, _) = records.as_chunks();
+        let (blocks, _) = blocks.as_chunks();
+        records.iter().all(|record| record_in_range(record, drive_marks, read_marks))
+            && blocks.iter().all(block_in_range)
+    });
+    in_range.then_some(sizes)
 }
+
+// Below, numbers joined by `&` are compared without a branch for each, and `&&`
+// spares the look at a command where they do not fit.
 
 /// Whether the ten cells of a server record are in range.
 #[inline]
-fn record_in_range(cells: &[u32], written: u32, read: u32) -> bool {
-    cells[0] <= 3
-        && block_in_range(&cells[1..4])
-        && is_command_or_none(cells[4])
-        && cells[5] <= BALLOT_LIMIT
-        && cells[6] <= BALLOT_LIMIT
-        && is_command_or_none(cells[7])
-        && cells[8] & !written == 0
-        && cells[9] & !read == 0
+fn record_in_range(cells: &[u32; RECORD], drive_marks: u32, read_marks: u32) -> bool {
+    let &[phase, mbal, bal, inp, offer, top, seenbal, seeninp, written, read] = cells;
+    (phase <= 3)
+        & is_ballot_or_none(mbal)
+        & is_ballot_or_none(bal)
+        & is_ballot_or_none(top)
+        & is_ballot_or_none(seenbal)
+        & (written & !drive_marks == 0)
+        & (read & !read_marks == 0)
+        && is_command_or_none(inp)
+        && is_command_or_none(offer)
+        && is_command_or_none(seeninp)
 }
 
 /// Whether mbal, bal and inp are in range.
 #[inline]
-fn block_in_range(cells: &[u32]) -> bool {
-    cells[0] <= BALLOT_LIMIT && cells[1] <= BALLOT_LIMIT && is_command_or_none(cells[2])
+fn block_in_range(&[mbal, bal, inp]: &[u32; BLOCK]) -> bool {
+    is_ballot_or_none(mbal) & is_ballot_or_none(bal) && is_command_or_none(inp)
 }

@@ -15,12 +15,14 @@ pub struct Block {
 
 impl Block {
     /// The block that begins at cell `at`.
+    #[inline]
     pub fn load(room: &[u32], at: usize) -> Block {
         let cells = &room[at..at + BLOCK];
         Block { mbal: cells[0], bal: cells[1], inp: cells[2] }
     }
 
     /// Puts the block at cell `at`.
+    #[inline]
     pub(crate) fn store(self, room: &mut [u32], at: usize) {
         room[at..at + BLOCK].copy_from_slice(&[self.mbal, self.bal, self.inp]);
     }
@@ -49,6 +51,7 @@ pub struct Server {
 
 impl Server {
     /// The record that begins at cell `at`.
+    #[inline]
     pub fn load(room: &[u32], at: usize) -> Server {
         let cells = &room[at..at + RECORD];
         Server {
@@ -64,6 +67,7 @@ impl Server {
     }
 
     /// Puts the record at cell `at`.
+    #[inline]
     pub(crate) fn store(self, room: &mut [u32], at: usize) {
         room[at..at + RECORD].copy_from_slice(&[
             self.phase,
