@@ -9,13 +9,6 @@ pub struct Times {
     pub other: f64,
 }
 
-impl Times {
-    /// How many times as long the register takes.
-    pub fn ratio(self) -> f64 {
-        self.register / self.other
-    }
-}
-
 /// Times both pieces of work in turn, `rounds` times each. `units` is how much one
 /// call of a piece does.
 pub fn side_by_side(

@@ -1,6 +1,6 @@
 //! The rooms and the steps that are timed.
 
-use other::generator::Chance;
+use other::generator::{Chance, Driver, Habits};
 use other::{least_own_above, Sizes};
 
 /// A room and records of steps that all are accepted in it, in any order.
@@ -56,6 +56,47 @@ pub fn settled(sizes: Sizes) -> Vec<u32> {
     room
 }
 
+/// Two rooms, and the records of the steps that lead from one to the other.
+pub struct Run {
+    pub first: Vec<u32>,
+    pub records: Vec<Vec<u8>>,
+    pub last: Vec<u32>,
+}
+
+/// 2,000 steps of servers that follow the protocol, from a room just opened.
+pub fn run(sizes: Sizes) -> Run {
+    let mut chance = Chance::new(3);
+    let habits = Habits { noise: 20, failures: 2, switches: 5, bids: 2, turn: 40, high: 0 };
+    let mut driver = Driver::new(&mut chance, sizes, habits);
+    let first = empty(sizes).room;
+    let mut room = first.clone();
+    let mut records = Vec::new();
+    for _ in 0..2_000 {
+        let step = driver.next_step(&mut chance, &room);
+        driver.hear(other::step(&mut room, step));
+        records.push(record(step));
+    }
+    Run { first, records, last: room }
+}
+
+/// The record of a step of each kind, with no field of 0.
+pub fn one_of_each() -> Vec<Vec<u8>> {
+    let (server, slot, drive, number) = (1, 2, 3, 66_825);
+    let steps = [
+        other::Step::Offer { server, slot, number },
+        other::Step::Recall { server, slot, drive },
+        other::Step::Rejoin { server, slot, number },
+        other::Step::Bid { server, slot, number },
+        other::Step::Write { server, slot, drive },
+        other::Step::Read { server, slot, drive, other: 2 },
+        other::Step::Finish { server, slot },
+        other::Step::Fail { server },
+        other::Step::DriveOff { drive },
+        other::Step::DriveOn { drive },
+    ];
+    steps.map(record).to_vec()
+}
+
 /// Every server, slot and drive, in an order from a seed.
 fn places(sizes: Sizes) -> impl Iterator<Item = (u8, u8, u8)> {
     let mut all = Vec::new();
@@ -81,7 +122,7 @@ fn command(chance: &mut Chance) -> u32 {
 }
 
 /// The record of a step.
-pub fn record(step: other::Step) -> Vec<u8> {
+fn record(step: other::Step) -> Vec<u8> {
     let mut bytes = vec![0; other::LONGEST_RECORD];
     let length = other::write_record(step, &mut bytes).expect("the buffer is long enough");
     bytes.truncate(length);
