@@ -7,7 +7,7 @@ use native.Mathlib.Omega.{arith}
 use lib.Dec.{lit<}
 use lib.ListN.{take, drop}
 use lib.Seq.{sets}
-use Rattle.record.specs.Map.{widths, bitOf, mapOf, fieldsLength, recordLength}
+use Rattle.record.specs.Map.{widths, fieldsLength, recordLength}
 use Rattle.record.specs.Read.{lowNumber, valuesAt}
 use Rattle.record.specs.Write.{lowFirst, fieldBytes}
 use Rattle.record.proofs.Bytes.{put-more}
@@ -16,15 +16,6 @@ pub record-length : (m : ℕ)
     → recordLength m ≡ 2 + m % 2 + m / 2 % 2 + m / 4 % 2 + m / 8 % 2 + m / 16 % 2 * 4
 unfolding recordLength fieldsLength
 record-length m = simp div-div-eq-div-mul (omega arith)
-
-pub map-of : (mask p s d q n : ℕ)
-    → mapOf mask (p ∷ s ∷ d ∷ q ∷ n ∷ [])
-    ≡ bitOf (mask % 2) p
-    + 2
-    * (bitOf (mask / 2 % 2) s
-    + 2 * (bitOf (mask / 4 % 2) d + 2 * (bitOf (mask / 8 % 2) q + 2 * bitOf (mask / 16 % 2) n)))
-unfolding mapOf
-map-of mask p s d q n = simp div-div-eq-div-mul (omega arith)
 
 -- where slot, drive, other and number stand
 abbrev pub slotAt : ℕ → ℕ

@@ -14,6 +14,11 @@ widths = 1 ∷ 1 ∷ 1 ∷ 1 ∷ 4 ∷ []
 abbrev pub bitOf : ℕ → ℕ → ℕ
 bitOf has v = cond (eqb v 0) 0 has
 
+-- the bits of the fields that are not 0
+unfoldable pub marksOf : List ℕ → ℕ
+marksOf [] = 0
+marksOf (v ∷ vs) = bitOf 1 v + 2 * marksOf vs
+
 -- the map of these fields, of a kind that has the fields of the mask
 unfoldable pub mapOf : ℕ → List ℕ → ℕ
 mapOf mask [] = 0

@@ -1,74 +1,76 @@
 // The map byte: which fields each kind has, which of them a record has, and how long that makes it.
 ghost use mathlib.Core.Bool.{cond};
 ghost use mathlib.Core.Path.{_≡_};
-ghost use Prim.Native.Nat.{_≤_};
+ghost use Prim.Native.Nat.{_<_};
 ghost use Rattle.record.specs.Fields.{maskOf, valuesOf};
-ghost use Rattle.record.specs.Map.{mapOf, recordLength, malformed, zeroAmong};
+ghost use Rattle.record.specs.Map.{marksOf, mapOf, recordLength, unknown, malformed, zeroAmong};
 use crate::fields::Fields;
 
 // The bits of the map byte.
-const SERVER: u8 = 1;
+const SERVER: usize = 1;
 
-const SLOT: u8 = 2;
+const SLOT: usize = 2;
 
-const DRIVE: u8 = 4;
+const DRIVE: usize = 4;
 
-const OTHER: u8 = 8;
+const OTHER: usize = 8;
 
-const NUMBER: u8 = 16;
+const NUMBER: usize = 16;
 
-// The fields that each kind has, by the kind's number; 0 is no kind.
-const FIELDS: [u8; 11] = [
-    0,
-    SERVER + SLOT + NUMBER,
-    SERVER + SLOT + DRIVE,
-    SERVER + SLOT + NUMBER,
-    SERVER + SLOT + NUMBER,
-    SERVER + SLOT + DRIVE,
-    SERVER + SLOT + DRIVE + OTHER,
-    SERVER + SLOT,
-    SERVER,
-    DRIVE,
-    DRIVE,
-];
+// The fields of a kind that acts in a slot.
+const AT_SLOT: usize = SERVER + SLOT;
 
-// A byte as a number to count with.
-fn wide(byte: u8) -> usize
-    ensures { λ r. ⌜ r ≡ byte ⌝ }
-{
-    byte as usize
-}
+const WITH_NUMBER: usize = SERVER + SLOT + NUMBER;
+
+const WITH_DRIVE: usize = SERVER + SLOT + DRIVE;
+
+const WITH_OTHER: usize = SERVER + SLOT + DRIVE + OTHER;
 
 // The map of all the fields that a kind has.
 fn mask_of(kind: u8) -> usize
     ensures { λ r. ⌜ r ≡ maskOf kind ⌝ }
 {
-    if kind <= 10 {
-        return wide(FIELDS[kind as usize]);
+    match kind {
+        1 => WITH_NUMBER,
+        2 => WITH_DRIVE,
+        3 => WITH_NUMBER,
+        4 => WITH_NUMBER,
+        5 => WITH_DRIVE,
+        6 => WITH_OTHER,
+        7 => AT_SLOT,
+        8 => SERVER,
+        9 => DRIVE,
+        10 => DRIVE,
+        _ => 0,
     }
-    0
 }
 
-// A field's bit where it is the lowest: the kind's own bit for the field, and 0 for a field of 0.
-fn bit(has: usize, zero: bool) -> usize
-    ensures { λ r. ⌜ (r ≡ cond zero 0 has) × (r ≤ has) ⌝ }
+// A field's bit where it is the lowest: 0 for a field of 0.
+fn bit(zero: bool) -> usize
+    ensures { λ r. ⌜ (r ≡ cond zero 0 1) × (r < 2) ⌝ }
 {
     if zero {
         return 0;
     }
-    has
+    1
+}
+
+// The bits of the fields that are not 0.
+fn marks_of(f: Fields) -> usize
+    ensures { λ r. ⌜ r ≡ marksOf (valuesOf f) ⌝ }
+{
+    bit(f.server == 0)
+        + 2 * bit(f.slot == 0)
+        + 4 * bit(f.drive == 0)
+        + 8 * bit(f.other == 0)
+        + 16 * bit(f.number == 0)
 }
 
 // The map of a step's fields.
 pub(crate) fn map_of(f: Fields) -> usize
     ensures { λ r. ⌜ r ≡ mapOf (maskOf (f .kind)) (valuesOf f) ⌝ }
 {
-    let mask = mask_of(f.kind);
-    let number = bit(mask / 16 % 2, f.number == 0);
-    let other = bit(mask / 8 % 2, f.other == 0) + 2 * number;
-    let drive = bit(mask / 4 % 2, f.drive == 0) + 2 * other;
-    let slot = bit(mask / 2 % 2, f.slot == 0) + 2 * drive;
-    bit(mask % 2, f.server == 0) + 2 * slot
+    mask_of(f.kind) & marks_of(f)
 }
 
 // The length of a record with this map.
@@ -78,18 +80,20 @@ pub(crate) fn record_length(map: usize) -> usize
     2 + map % 2 + map / 2 % 2 + map / 4 % 2 + map / 8 % 2 + map / 16 % 2 * 4
 }
 
+// Whether the kind is none of the ten.
+pub(crate) fn unknown(kind: u8) -> bool
+    ensures { λ r. ⌜ r ≡ unknown kind ⌝ }
+{
+    (kind == 0) | (10 < kind)
+}
+
 // Whether the kind is unknown, or lacks a field that the map asks for.
 pub(crate) fn malformed(map: usize, kind: u8) -> bool
+    requires { ⌜ map < 32 ⌝ }
     ensures { λ r. ⌜ r ≡ malformed map kind ⌝ }
 {
     let mask = mask_of(kind);
-    (kind == 0)
-        | (10 < kind)
-        | (mask % 2 < map % 2)
-        | (mask / 2 % 2 < map / 2 % 2)
-        | (mask / 4 % 2 < map / 4 % 2)
-        | (mask / 8 % 2 < map / 8 % 2)
-        | (mask / 16 % 2 < map / 16 % 2)
+    unknown(kind) | ((map | mask) != mask)
 }
 
 // Whether a field whose bit stands is 0.

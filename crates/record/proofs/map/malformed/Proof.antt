@@ -1,14 +1,19 @@
--- `malformed` meets its contract: the definition goes through the same five bits.
-use mathlib.Core.Bool.{or-assoc, or-false}
-use native.Mathlib.Nat.{div-div-eq-div-mul}
+-- `malformed` meets its contract: one operation says what the definition says bit by bit.
+use mathlib.Core.Bool.{Bool, not, _||_}
+use mathlib.Core.Path.{_∙_, ap₂}
 use borrow.Author.Needs.{needs}
-use Rattle.record.specs.Map.{malformed, asksMore}
+use Rattle.record.specs.Fields.{maskOf}
+use Rattle.record.specs.Map.{widths, malformed}
+use Rattle.record.proofs.MapLaws.{asks-beyond}
 use Rattle.record.proofs.map.malformed.Statement.{statement}
 use Rattle.record.proofs.map.malformed.Tie as tie
 
 returns : tie.Need-returns
-unfolding malformed asksMore
-returns c = rw (c .mask-of .ensures) (simp (div-div-eq-div-mul, or-assoc, or-false))
+unfolding malformed
+returns c =
+    let start = c .before .before in
+    ap₂ _||_ (c .unknown .ensures)
+    (rw (c .before .mask-of .ensures) (asks-beyond widths (start .args .map) (maskOf (start .args .kind)) (start .pre)))
 
 pub malformed-spec : {M : Type 1} → statement M
-malformed-spec = tie.close (tie.spec (λ c κs. search needs) returns)
+malformed-spec = tie.close (tie.spec (λ c κs. search needs) (λ c κs. search needs) returns)
