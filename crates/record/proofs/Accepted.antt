@@ -3,7 +3,7 @@ use Prim.Native.Nat.{ℕ, _<_, _≤_}
 use mathlib.Core.Bool.{false}
 use mathlib.Core.List.{List}
 use mathlib.Core.Logic.{_⊎_, inl, inr}
-use mathlib.Core.Path.{_≡_, refl}
+use mathlib.Core.Path.{_≡_, refl, _∙_, sym, ap}
 use native.Mathlib.Omega.{arith}
 use borrow.Author.Tests.{ltb-true, leb-true, not-true}
 use lib.ListN.{length, getD}
@@ -12,14 +12,14 @@ use Rattle.checks.specs.Refusals.{refusalsOf, lowest}
 use Rattle.checks.proofs.CheckLaws.{must-cases}
 use Rattle.checks.proofs.LowestLaws.{first-applies}
 use Rattle.record.specs.Answers.{readRefusal}
-use Rattle.record.specs.Fields.{maskOf, stepOf, withValues}
+use Rattle.record.specs.Fields.{maskOf, fieldsOf, stepOf, withValues}
 use Rattle.record.specs.Map.{widths, recordLength, unknown, malformed, asksMore, zeroAmong}
 use Rattle.record.specs.Read.{readChecks, readingOf, valuesAt}
 use Rattle.record.specs.declared.Reading.the-variants.{Decoded, Refused}
 use Rattle.record.specs.declared.Reading.{Reading}
 use Rattle.lemmas.proofs.Tests.{neither-left, neither-right}
-use Rattle.record.proofs.Marks.{asked-length}
-use Rattle.record.proofs.Steps.{kind-length}
+use Rattle.record.proofs.Marks.{asked-length, values-mark, values-keep}
+use Rattle.record.proofs.Steps.{kind-length, fields-step}
 
 -- what the checks say where a step was read
 pub record Accepted (bytes : List ℕ) (step : Step) (used : ℕ) : Type 0 where
@@ -56,6 +56,18 @@ accepted bytes {step} {used} =
       step-is = cc;
       used-is = cc;
     }))))))
+
+-- the fields of the step that was read are those in the bytes
+pub fields-read : (bytes : List ℕ) {step : Step} {used : ℕ} → readingOf bytes ≡ Decoded step used
+    → fieldsOf step ≡ withValues (getD bytes 1 0) (valuesAt widths (getD bytes 0 0) bytes 2)
+unfolding valuesAt
+fields-read bytes read =
+    let h = accepted bytes read in
+    let m = getD bytes 0 0 in
+    let kind = getD bytes 1 0 in
+    let vs = valuesAt widths m bytes 2 in
+    let keeps = values-keep widths vs m (maskOf kind) refl (values-mark widths m bytes 2 (h .none-zero)) (h .asks) in
+    ap fieldsOf (sym (h .step-is)) ∙ fields-step (withValues kind vs) (h .known) keeps
 
 -- The length used: at least the map and the kind, at most eight bytes, and no more than there are.
 pub record Used (bytes : List ℕ) (used : ℕ) : Type 0 where

@@ -1,6 +1,6 @@
 -- Laws of the map byte, over any number of fields.
-use Prim.Native.Nat.{ℕ, _+_, _*_, _/_, _%_, _^_, _<_, min, max}
-use mathlib.Core.Bool.{Bool, not, _||_}
+use Prim.Native.Nat.{ℕ, _+_, _*_, _/_, _%_, _^_, _<_, min}
+use mathlib.Core.Bool.{not}
 use mathlib.Core.List.{List, [], _∷_}
 use mathlib.Core.Path.{_≡_, refl, _∙_, sym, ap, ap₂}
 use native.Mathlib.Nat.{mod-lt, two-pow-succ}

@@ -1,6 +1,6 @@
 -- A map that marks exactly the fields that are not 0: the map that is written, and the map of what is read.
 use Prim.Native.Nat.{ℕ, zero, suc, _+_, _*_, _/_, _%_, _^_, _<_, _≤_}
-use mathlib.Core.Bool.{false, _&&_, and-false}
+use mathlib.Core.Bool.{false, _&&_, and-false, cond}
 use mathlib.Core.List.{List, [], _∷_, _++_, append-assoc}
 use mathlib.Core.Path.{_≡_, refl, _∙_, sym, ap, ap₂, subst}
 use native.Mathlib.Nat.{mod-lt, two-pow-succ, one-mul, zero-mul, mul-le-mul-right, one-le-pow, pow-le-pow-right, lt-of-lt-of-le}
@@ -25,6 +25,11 @@ Marks m (v ∷ vs) = (m % 2 ≡ bitOf 1 v) × Marks (m / 2) vs
 abbrev pub Keeps : ℕ → List ℕ → Type 0
 Keeps mask [] = Unit {0}
 Keeps mask (v ∷ vs) = (mask % 2 ≡ 0 → v ≡ 0) × Keeps (mask / 2) vs
+
+-- the fields, with 0 for one that the mask lacks
+abbrev pub kept : ℕ → List ℕ → List ℕ
+kept mask [] = []
+kept mask (v ∷ vs) = cond (eqb (mask % 2) 1) v 0 ∷ kept (mask / 2) vs
 
 -- each field fits its width
 abbrev pub Fit : List ℕ → List ℕ → Type 0
@@ -59,6 +64,47 @@ asked-length (w ∷ ws) m mask a =
     let within = ltb-false (mask % 2) (m % 2) (neither-left (ltb (mask % 2) (m % 2)) more a) in
     let beyond = neither-right (ltb (mask % 2) (m % 2)) more a in
     omega (arith, mul-le-mul-right w within, asked-length ws (m / 2) (mask / 2) beyond)
+
+-- ---- a field that the mask lacks is not looked at
+
+-- what holds for either value of a bit holds for the first bit of a mask
+by-bit : (P : ℕ → Type 0) (mask : ℕ) → P 0 → P 1 → P (mask % 2)
+by-bit P mask lacks has = go (mask % 2) (mod-lt mask (lit< tt))
+  where
+    go : (b : ℕ) → b < 2 → P b
+    go zero h = lacks
+    go (suc zero) h = has
+    go (suc (suc b)) h = absurd (omega arith)
+
+no-bit : (v : ℕ) → bitOf 0 v ≡ 0
+no-bit v = by-zero v (bit-is-zero 0 v) (bit-is-has 0 v)
+
+pub kept-same : (mask : ℕ) (vs : List ℕ) → Keeps mask vs → kept mask vs ≡ vs
+kept-same mask [] k = refl
+kept-same mask (v ∷ vs) k =
+    ap₂ _∷_
+    (by-bit (λ (b : ℕ). (b ≡ 0 → v ≡ 0) → cond (eqb b 1) v 0 ≡ v) mask (λ z. sym (z refl)) (λ z. refl) (k .0))
+    (kept-same (mask / 2) vs (k .1))
+
+pub kept-map : (mask : ℕ) (vs : List ℕ) → mapOf mask (kept mask vs) ≡ mapOf mask vs
+unfolding mapOf
+kept-map mask [] = refl
+kept-map mask (v ∷ vs) =
+    ap₂ (λ (b m : ℕ). b + 2 * m)
+    (by-bit (λ (b : ℕ). bitOf b (cond (eqb b 1) v 0) ≡ bitOf b v) mask (sym (no-bit v)) refl)
+    (kept-map (mask / 2) vs)
+
+pub kept-bytes : (ws vs : List ℕ) (mask : ℕ) → fieldBytes ws (mapOf mask vs) (kept mask vs) ≡ fieldBytes ws (mapOf mask vs) vs
+unfolding fieldBytes lowFirst
+kept-bytes [] vs mask = refl
+kept-bytes (w ∷ ws) [] mask = refl
+kept-bytes (w ∷ ws) (v ∷ vs) mask =
+    rw (map-head mask v vs, map-tail mask v vs)
+    (ap₂ _++_
+    (by-bit (λ (b : ℕ). lowFirst (bitOf b v * w) (cond (eqb b 1) v 0) ≡ lowFirst (bitOf b v * w) v) mask
+    (rw (no-bit v, zero-mul w))
+    refl)
+    (kept-bytes ws vs (mask / 2)))
 
 -- ---- what is written
 

@@ -1,17 +1,19 @@
 -- Steps and their fields: the ten kinds are gone through here, and nowhere else.
 use Prim.Native.Nat.{ℕ, suc, _≤_}
 use mathlib.Core.Bool.{false}
-use mathlib.Core.List.{[], _∷_}
-use mathlib.Core.Path.{_≡_, refl, sym, subst}
+use mathlib.Core.List.{List, _∷_}
+use mathlib.Core.Path.{_≡_, refl, _∙_, sym, ap, subst}
 use native.Mathlib.Omega.{arith}
 use borrow.Author.Tests.{ltb-false, eqb-true, eqb-false}
 use lib.Dec.{eqb, ltb, lit≤}
 use Rattle.lemmas.proofs.Tests.{by-test, neither-left, neither-right}
 use Rattle.state.specs.declared.Step.the-variants.{Offer, Recall, Rejoin, Bid, Write, Read, Finish, Fail, DriveOff, DriveOn}
 use Rattle.state.specs.declared.Step.{Step}
-use Rattle.record.specs.Fields.{maskOf, fields, fieldsOf, stepOf, valuesOf, StepFits}
-use Rattle.record.specs.Map.{widths, unknown, fieldsLength, recordLength}
-use Rattle.record.proofs.Marks.{Keeps, Fit}
+use Rattle.record.specs.Fields.{maskOf, fieldsOf, stepOf, valuesOf, withValues, StepFits}
+use Rattle.record.specs.Map.{widths, mapOf, unknown, fieldsLength, recordLength}
+use Rattle.record.specs.Write.{bytesOf, recordOfFields, recordOf}
+use Rattle.record.specs.declared.fields.Fields.{Fields}
+use Rattle.record.proofs.Marks.{Keeps, Fit, kept, kept-same, kept-map, kept-bytes}
 
 pub step-fields : (step : Step) → stepOf (fieldsOf step) ≡ step
 unfolding stepOf
@@ -86,23 +88,36 @@ kind-length =
     (lit≤ tt)
     (lit≤ tt)
 
--- a known kind with 0 in every field that it lacks is a step's
-pub fields-step : (kind p s d q n : ℕ) → unknown kind ≡ false
-    → Keeps (maskOf kind) (p ∷ s ∷ d ∷ q ∷ n ∷ [])
-    → fieldsOf (stepOf (fields kind p s d q n)) ≡ fields kind p s d q n
+-- the step of a known kind with any fields has the fields that its kind has, and 0 for each other
+pub fields-kept : (f : Fields) → unknown (f .kind) ≡ false
+    → fieldsOf (stepOf f) ≡ withValues (f .kind) (kept (maskOf (f .kind)) (valuesOf f))
 unfolding maskOf stepOf
-fields-step kind p s d q n known =
+fields-kept f =
     each-kind
-    (λ (k : ℕ). Keeps (maskOf k) (p ∷ s ∷ d ∷ q ∷ n ∷ []) → fieldsOf (stepOf (fields k p s d q n)) ≡ fields k p s d q n)
-    (λ h. cc (h .1 .1 .0 refl, h .1 .1 .1 .0 refl))
-    (λ h. cc (h .1 .1 .1 .0 refl, h .1 .1 .1 .1 .0 refl))
-    (λ h. cc (h .1 .1 .0 refl, h .1 .1 .1 .0 refl))
-    (λ h. cc (h .1 .1 .0 refl, h .1 .1 .1 .0 refl))
-    (λ h. cc (h .1 .1 .1 .0 refl, h .1 .1 .1 .1 .0 refl))
-    (λ h. cc (h .1 .1 .1 .1 .0 refl))
-    (λ h. cc (h .1 .1 .0 refl, h .1 .1 .1 .0 refl, h .1 .1 .1 .1 .0 refl))
-    (λ h. cc (h .1 .0 refl, h .1 .1 .0 refl, h .1 .1 .1 .0 refl, h .1 .1 .1 .1 .0 refl))
-    (λ h. cc (h .0 refl, h .1 .0 refl, h .1 .1 .1 .0 refl, h .1 .1 .1 .1 .0 refl))
-    (λ h. cc (h .0 refl, h .1 .0 refl, h .1 .1 .1 .0 refl, h .1 .1 .1 .1 .0 refl))
-    kind
-    known
+    (λ (k : ℕ). fieldsOf (stepOf (withValues k (valuesOf f))) ≡ withValues k (kept (maskOf k) (valuesOf f)))
+    refl
+    refl
+    refl
+    refl
+    refl
+    refl
+    refl
+    refl
+    refl
+    refl
+    (f .kind)
+
+-- so a known kind with 0 in every field that it lacks is a step's
+pub fields-step : (f : Fields) → unknown (f .kind) ≡ false → Keeps (maskOf (f .kind)) (valuesOf f) → fieldsOf (stepOf f) ≡ f
+fields-step f known keeps =
+    fields-kept f known ∙ ap (withValues (f .kind)) (kept-same (maskOf (f .kind)) (valuesOf f) keeps)
+
+-- and a field that a known kind lacks is not in its record
+pub fields-record : (f : Fields) → unknown (f .kind) ≡ false → recordOf (stepOf f) ≡ recordOfFields f
+unfolding recordOf recordOfFields bytesOf
+fields-record f known =
+    let mask = maskOf (f .kind) in
+    let vs = valuesOf f in
+    ap recordOfFields (fields-kept f known)
+    ∙ ap (λ (m : ℕ). bytesOf m (f .kind) (kept mask vs)) (kept-map mask vs)
+    ∙ ap (λ (l : List ℕ). mapOf mask vs ∷ f .kind ∷ l) (kept-bytes widths vs mask)

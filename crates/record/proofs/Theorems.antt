@@ -12,16 +12,16 @@ use Rattle.record.specs.Answers.{Reads, writeRefusal, writeLength}
 use Rattle.record.specs.Fields.{maskOf, fieldsOf, stepOf, valuesOf, withValues, StepFits}
 use Rattle.record.specs.Map.{widths, mapOf, recordLength, fieldsLength, unknown, malformed, asksMore, zeroAmong}
 use Rattle.record.specs.Read.{readChecks, readingOf, valuesAt, Bytes}
-use Rattle.record.specs.Write.{recordOf, recordOfFields, bytesOf, fieldBytes, writeChecks, writingOf, writtenBy, writtenOf}
+use Rattle.record.specs.Write.{recordOf, recordOfFields, bytesOf, fieldBytes, writeChecks, storing, writingOf, writtenBy, stored, writtenOf}
 use Rattle.record.specs.declared.Reading.the-variants as reading
 use Rattle.record.specs.declared.Reading.{Reading}
 use Rattle.record.specs.declared.Writing.the-variants as writing
 use Rattle.record.specs.declared.Writing.{Writing}
 use Rattle.record.specs.declared.fields.Fields.{Fields}
-use Rattle.record.proofs.Accepted.{accepted, Used, used-bounds}
+use Rattle.record.proofs.Accepted.{accepted, fields-read, Used, used-bounds}
 use Rattle.record.proofs.MapLaws.{map-small, fields-length, bytes-length}
-use Rattle.record.proofs.Marks.{Keeps, Fit, map-marks, asks-no-more, none-zero, values-back, values-mark, values-fit, map-again, values-keep, bytes-again, asked-length}
-use Rattle.record.proofs.Steps.{step-fields, kind-known, step-keeps, step-fit, fields-step, kind-length}
+use Rattle.record.proofs.Marks.{Keeps, Fit, map-marks, asks-no-more, none-zero, values-back, values-mark, values-fit, map-again, bytes-again, asked-length}
+use Rattle.record.proofs.Steps.{step-fields, kind-known, step-keeps, step-fit, kind-length}
 
 -- fields that fit, of a known kind, with 0 in every field that the kind lacks
 read-fields : (f : Fields) (rest : List ℕ)
@@ -88,11 +88,8 @@ written-again bytes {step} {used} b answer =
     let kind = getD bytes 1 0 in
     let vs = valuesAt widths m bytes 2 in
     let marks = values-mark widths m bytes 2 (h .none-zero) in
-    let keeps = values-keep widths vs m (maskOf kind) refl marks (h .asks) in
     let fit = values-fit widths m bytes 2 b in
-    let same-fields : fieldsOf step ≡ withValues kind vs =
-    ap fieldsOf (sym (h .step-is))
-    ∙ fields-step kind (getD vs 0 0) (getD vs 1 0) (getD vs 2 0) (getD vs 3 0) (getD vs 4 0) (h .known) keeps in
+    let same-fields : fieldsOf step ≡ withValues kind vs = fields-read bytes read in
     let same-map : mapOf (maskOf kind) vs ≡ m = map-again widths vs m (maskOf kind) refl (h .small) marks (h .asks) in
     record {
       fits =
@@ -141,7 +138,7 @@ no-beginning a b more fa fb e =
 -- What a call of write leaves, where it is not refused, reads back with the length that it answered.
 pub write-then-read : (step : Step) (buffer : List ℕ) → StepFits step → writeRefusal (writingOf step buffer) ≡ 0
     → Reads (readingOf (writtenOf step buffer)) step (writeLength (writingOf step buffer))
-unfolding writingOf writeChecks writtenOf
+unfolding storing writeChecks writingOf stored writtenOf
 write-then-read step buffer fits =
     let P : Writing → Type 0 =
     λ w. writeRefusal w ≡ 0 → Reads (readingOf (writtenBy w (recordOf step) buffer)) step (writeLength w) in

@@ -1,12 +1,14 @@
--- What is read from bytes (SPEC, "Step records").
+-- What is read from bytes, as a step or as its fields (SPEC, "Step records").
 use Prim.Native.Nat.{ℕ, _+_, _*_, _/_, _%_, _<_}
 use mathlib.Core.Bool.{not}
 use mathlib.Core.List.{List, [], _∷_}
 use lib.Dec.{leb, ltb}
 use lib.ListN.{length, getD, take, drop}
 use Rattle.checks.specs.Checks.{Checked, Must, Gives, outcome}
-use Rattle.record.specs.Fields.{stepOf, withValues}
+use Rattle.record.specs.Fields.{fieldsOf, stepOf, withValues}
 use Rattle.record.specs.Map.{widths, recordLength, malformed, zeroAmong}
+use Rattle.record.specs.declared.Found.the-variants as found
+use Rattle.record.specs.declared.Found.{Found}
 use Rattle.record.specs.declared.Reading.the-variants.{Decoded, Refused}
 use Rattle.record.specs.declared.Reading.{Reading}
 
@@ -41,3 +43,11 @@ readChecks bytes =
 
 unfoldable pub readingOf : List ℕ → Reading
 readingOf bytes = outcome Refused (readChecks bytes)
+
+-- the fields of the step that was read, with the length used
+abbrev pub foundIn : Reading → Found
+foundIn (Decoded step used) = found.Record (fieldsOf step) used
+foundIn (Refused number) = found.Refused number
+
+unfoldable pub foundOf : List ℕ → Found
+foundOf bytes = foundIn (readingOf bytes)

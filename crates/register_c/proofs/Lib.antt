@@ -1,3 +1,2 @@
 -- Laws about the packing.
 pub mod Halves
-pub mod WriteLaws

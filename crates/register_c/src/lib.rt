@@ -8,9 +8,10 @@ ghost use Rattle.layout.specs.Places.{lengthOf};
 ghost use Rattle.room.specs.Open.{openRefusal, opening, opened};
 ghost use Rattle.record.specs.Fields.{fields};
 ghost use Rattle.record.specs.Read.{readingOf};
+ghost use Rattle.record.specs.Write.{writingFrom, writtenFrom};
 ghost use Rattle.catalogue.specs.Call.{catalogueOf, catalogueCells};
 ghost use Rattle.register_c.specs.Packing.{packed, packedAnswer, packedListing, packedReading, packedWriting};
-ghost use Rattle.register_c.specs.Calls.{recordAnswered, recordStepped, kindWriting, kindWritten};
+ghost use Rattle.register_c.specs.Calls.{recordAnswered, recordStepped};
 use record::Fields;
 use register::Listing;
 use register::Opening;
@@ -94,14 +95,18 @@ pub extern "C" fn register_write(
     number: u32,
     bytes: &mut [u8],
 ) -> u64
-    ensures answer { λ r. ⌜ r ≡ packedWriting (kindWriting (fields kind server slot drive other number) (now (bytes .entry))) ⌝ }
-    ensures bytes { λ r. ⌜ now (bytes .exit) ≡ kindWritten (fields kind server slot drive other number) (now (bytes .entry)) ⌝ }
+    ensures answer { λ r. ⌜ r ≡ packedWriting (writingFrom (fields kind server slot drive other number) (now (bytes .entry))) ⌝ }
+    ensures bytes { λ r. ⌜ now (bytes .exit) ≡ writtenFrom (fields kind server slot drive other number) (now (bytes .entry)) ⌝ }
 {
-    if !((1 <= kind) & (kind <= 10)) {
-        return pack(REFUSED, 15);
-    }
-    let step = record::step_of(Fields::new(kind, server, slot, drive, other, number));
-    match register::write_record(step, bytes) {
+    let f = Fields {
+        kind,
+        server,
+        slot,
+        drive,
+        other,
+        number,
+    };
+    match record::write_fields(f, bytes) {
         Writing::Encoded(used) => used as u64,
         Writing::Refused(number) => pack(REFUSED, number),
     }

@@ -1,84 +1,23 @@
--- `write_record` meets its contract: what the calls said of the step is put together to its record, and the buffer is
--- long enough for it or not.
-use Prim.Native.Nat.{ℕ, _≤_}
+-- `write_record` meets its contract: the record of a step is that of its fields.
+use Prim.Native.Nat.{ℕ}
 use mathlib.Core.List.{List}
-use mathlib.Core.Path.{_≡_, _∙_, sym, ap, refl}
+use mathlib.Core.Path.{_∙_, ap}
 use borrow.Author.Needs.{needs}
-use borrow.Author.Tests.{lt-leb, le-leb}
-use lib.ListN.{length}
-use lib.Seq.{sets}
-use Rattle.checks.proofs.CheckLaws.{passes, fails}
-use Rattle.state.specs.declared.Step.{Step}
-use Rattle.record.specs.Fields.{maskOf, valuesOf}
-use Rattle.record.specs.Write.{writeChecks, writingOf, writtenBy, writtenOf, bytesOf, recordOf, recordOfFields}
-use Rattle.record.specs.declared.Writing.the-variants.{Encoded, Refused}
-use Rattle.record.specs.declared.Writing.{Writing}
-use Rattle.record.proofs.Bytes.{stored-first}
-use Rattle.record.proofs.MapLaws.{map-small, bytes-length}
+use Rattle.record.specs.Write.{recordOf, recordOfFields, storing, stored, writingOf, writtenOf}
 use Rattle.record.proofs.write_record.Statement.{statement}
 use Rattle.record.proofs.write_record.Tie as tie
 
--- what the calls said of the step
-record-is : (c : tie.After-map-of)
-    → bytesOf (c .map-of .result) (c .before .fields-of .result .kind) (valuesOf (c .before .fields-of .result))
-    ≡ recordOf (c .before .before .before .args .step)
-unfolding recordOf recordOfFields
-record-is c =
-    let f = c .before .fields-of .result in
-    ap (λ (m : ℕ). bytesOf m (f .kind) (valuesOf f)) (c .map-of .ensures)
-    ∙ ap recordOfFields (c .before .fields-of .ensures)
-
-length-is : (c : tie.After-record-length)
-    → c .record-length .result ≡ length (recordOf (c .before .before .before .before .args .step))
-length-is c =
-    let f = c .before .before .fields-of .result in
-    c .record-length .ensures
-    ∙ sym (bytes-length (c .before .map-of .result) (f .kind) (valuesOf f) refl)
-    ∙ ap length (record-is (c .before))
-
--- the answer decides what is left in the buffer
-says : (step : Step) (buffer : List ℕ) (w : Writing) → writingOf step buffer ≡ w
-    → (w ≡ writingOf step buffer) × (writtenBy w (recordOf step) buffer ≡ writtenOf step buffer)
-unfolding writtenOf
-says step buffer w e = (sym e, ap (λ (x : Writing). writtenBy x (recordOf step) buffer) (sym e))
-
 returns : tie.Need-returns
-unfolding writingOf writeChecks
+unfolding recordOf writingOf writtenOf
 returns c =
-    says _ _ (Refused 2) (fails Refused _ 2 _ (lt-leb _ _ (rw (length-is (c .before)) at (c .if1 .taken))))
-
-put-fields-requires : tie.Need-put-fields-requires
-put-fields-requires c κs =
-    let at-map = c .before .before .before in
-    let f = at-map .before .fields-of .result in
-    let small = map-small (maskOf (f .kind)) (valuesOf f) in
-    (rw (at-map .map-of .ensures) small, rw (← c .before .before .record-length .ensures) (c .before .if1 .left))
-
-returns-2 : tie.Need-returns-2
-unfolding writingOf writeChecks
-returns-2 c =
-    let at-length = c .before .before .before .before .before in
-    let a = at-length .before .before .before .before .args in
-    let at-if = c .before .before .before .before in
-    let rec = recordOf (a .step) in
-    let was = a .buffer .now in
-    let fits : length rec ≤ length was = rw (length-is at-length) at (at-if .if1 .left) in
-    let told = says (a .step) was (Encoded (length rec)) (passes Refused _ 2 _ (le-leb _ _ fits)) in (
-      ap Encoded (length-is at-length) ∙ told .0,
-      c .before .before .put-fields .ensures
-          ∙ ap (λ (r : List ℕ). sets was 0 r) (record-is (at-length .before))
-          ∙ stored-first rec was fits
-          ∙ told .1,
+    let at-store = c .before .before in
+    let at-fields = at-store .before .before in
+    let old = at-fields .before .before .args .buffer .now in
+    let same = ap recordOfFields (at-fields .fields-of .ensures) in (
+      at-store .store .ensures .0 ∙ ap (λ (bytes : List ℕ). storing bytes old) same,
+      at-store .store .ensures .1 ∙ ap (λ (bytes : List ℕ). stored bytes old) same,
     )
 
 pub write-record-spec : {M : Type 1} → statement M
 write-record-spec =
-    tie.close
-    (tie.spec
-    (λ c κs. search needs)
-    (λ c κs. search needs)
-    (λ c κs. search needs)
-    returns
-    put-fields-requires
-    (λ c. search needs)
-    returns-2)
+    tie.close (tie.spec (λ c κs. search needs) (λ c κs. search needs) (λ c. search needs) returns)

@@ -1,6 +1,6 @@
 -- `malformed` meets its contract: one operation says what the definition says bit by bit.
-use mathlib.Core.Bool.{Bool, not, _||_}
-use mathlib.Core.Path.{_∙_, ap₂}
+use mathlib.Core.Bool.{_||_}
+use mathlib.Core.Path.{ap₂}
 use borrow.Author.Needs.{needs}
 use Rattle.record.specs.Fields.{maskOf}
 use Rattle.record.specs.Map.{widths, malformed}
