@@ -8,12 +8,12 @@ use native.Mathlib.Omega.{arith}
 use native.Mathlib.Decide.{decLt}
 use native.Mathlib.Nat.{mul-le-mul-right, mul-le-mul}
 use lib.Arith.{digits-lt}
-use lib.Dec.{leb}
+use lib.Dec.{leb, ltb}
 use lib.ListN.{length}
-use borrow.Author.Tests.{leb-true, le-leb}
+use borrow.Author.Tests.{leb-true, le-leb, ltb-true}
 use Rattle.lemmas.proofs.Tests.{and-left, and-right}
 use Rattle.state.specs.declared.Sizes.{Sizes}
-use Rattle.layout.specs.Places.{base, serverLength, blockLength, longestSlot, longestRoom, slotLength, roomLength, slotAt, serverAt, nthBlockAt, blockAt, sizesFit, Fit, Row}
+use Rattle.layout.specs.Places.{base, serverLength, blockLength, longestSlot, longestRoom, slotLength, roomLength, slotAt, serverAt, nthBlockAt, blockAt, sizesFit, hasServer, Fit, Row}
 
 -- the test of the sizes and the bounds say the same
 pub fit-of : (z : Sizes) → sizesFit z ≡ true → Fit z
@@ -49,6 +49,21 @@ of-fit z f =
       le-leb 1 (z .slots) (f .one-slot),
       le-leb (z .slots) 16 (f .slots),
     )
+
+-- the server and the slot that a room has, as bounds
+pub record HasServer (z : Sizes) (p s : ℕ) : Type 0 where
+  pub fit : Fit z
+  pub server : p < z .servers
+  pub slot : s < z .slots
+
+pub has-server : (z : Sizes) (p s : ℕ) → hasServer z p s ≡ true → HasServer z p s
+has-server z p s e =
+    let both = and-left (sizesFit z && ltb p (z .servers)) (ltb s (z .slots)) e in
+    record {
+      fit = fit-of z (and-left (sizesFit z) (ltb p (z .servers)) both);
+      server = ltb-true p (z .servers) (and-right (sizesFit z) (ltb p (z .servers)) both);
+      slot = ltb-true s (z .slots) (and-right (sizesFit z && ltb p (z .servers)) (ltb s (z .slots)) e);
+    }
 
 module _ (z : Sizes) (fit : Fit z) where
   -- how large a slot and a room are at most

@@ -4,7 +4,7 @@ use mathlib.Core.Bool.{Bool, _&&_, cond}
 use mathlib.Core.List.{List}
 use mathlib.Core.Path.{_≡_}
 use lib.ListN.{length}
-use lib.Dec.{leb}
+use lib.Dec.{leb, ltb}
 use Rattle.state.specs.declared.Sizes.{Sizes}
 
 -- cells 0 to 3 are N, D, S and the off marks
@@ -60,6 +60,18 @@ sizesFit z =
 -- the cells that a room of these sizes has; none where they do not fit
 abbrev pub lengthOf : Sizes → ℕ
 lengthOf z = cond (sizesFit z) (roomLength z) 0
+
+-- a room of these sizes has server p and slot s
+abbrev pub hasServer : Sizes → ℕ → ℕ → Bool
+hasServer z p s = sizesFit z && ltb p (z .servers) && ltb s (z .slots)
+
+-- where server p's record in slot s begins; 0, which is a cell of the head, where the room has no such place
+abbrev pub serverPlace : Sizes → ℕ → ℕ → ℕ
+serverPlace z p s = cond (hasServer z p s) (serverAt z s p) 0
+
+-- where its block on drive d begins, likewise
+abbrev pub blockPlace : Sizes → ℕ → ℕ → ℕ → ℕ
+blockPlace z p s d = cond (hasServer z p s && ltb d (z .drives)) (blockAt z s d p) 0
 
 -- the sizes as bounds
 pub record Fit (z : Sizes) : Type 0 where

@@ -2,7 +2,7 @@
 ghost use mathlib.Core.Path.{_≡_};
 ghost use Prim.Native.Nat.{_+_, _<_, _≤_};
 ghost use lib.ListN.{length, replicate};
-ghost use Rattle.layout.specs.Places.{base, serverLength, blockLength, Fit, Row, longestRoom, sizesFit, slotLength, roomLength, lengthOf, serverAt, blockAt};
+ghost use Rattle.layout.specs.Places.{base, serverLength, blockLength, Fit, Row, longestRoom, sizesFit, slotLength, roomLength, lengthOf, serverAt, blockAt, hasServer, serverPlace, blockPlace};
 ghost use Rattle.layout.specs.Cells.{sizesOf, limitsOf, serverIn, blockIn, serverOf, blockOf, putServer, putBlock};
 use state::Block;
 use state::Server;
@@ -91,6 +91,33 @@ pub fn block_at(z: Sizes, s: u8, d: u8, p: u8) -> usize
 {
     let nth = (d as usize) * (z.servers as usize) + (p as usize);
     BASE + (s as usize) * slot_length(z) + SERVER_CELLS * (z.servers as usize) + BLOCK_CELLS * nth
+}
+
+// Whether a room of these sizes has the server and the slot.
+fn has_server(z: Sizes, server: u32, slot: u32) -> bool
+    ensures { λ r. ⌜ r ≡ hasServer z server slot ⌝ }
+{
+    sizes_fit(z) & (server < z.servers) & (slot < z.slots)
+}
+
+// The first cell of the record of a server in a slot, and 0 where a room of these sizes has no such place.
+pub fn server_place(z: Sizes, server: u32, slot: u32) -> usize
+    ensures { λ r. ⌜ (r ≡ serverPlace z server slot) × (r ≤ longestRoom) ⌝ }
+{
+    if has_server(z, server, slot) {
+        return server_at(z, slot as u8, server as u8);
+    }
+    0
+}
+
+// The first cell of the server's block on a drive there, and 0 likewise.
+pub fn block_place(z: Sizes, server: u32, slot: u32, drive: u32) -> usize
+    ensures { λ r. ⌜ (r ≡ blockPlace z server slot drive) × (r ≤ longestRoom) ⌝ }
+{
+    if has_server(z, server, slot) & (drive < z.drives) {
+        return block_at(z, slot as u8, drive as u8, server as u8);
+    }
+    0
 }
 
 // The server record that begins at a cell.
