@@ -1,18 +1,19 @@
 // The register's calls for C and Rust: numbers and slices only. A slice is a pointer and then a length. Each function
 // takes any input at all; its contract gives the answer, packed in one number, and every lent cell or byte by the
-// definitions of the call that it wraps. A step is given by its record, and of a record that is read only the length is
-// answered.
+// definitions of the call that it wraps. A step is given by its record.
 ghost use mathlib.Core.Path.{_≡_};
+ghost use lib.ListN.{length};
 ghost use Rattle.state.specs.Sizes.{sizes};
-ghost use Rattle.layout.specs.Places.{lengthOf};
+ghost use Rattle.layout.specs.Places.{lengthOf, serverPlace, blockPlace};
 ghost use Rattle.room.specs.Open.{openRefusal, opening, opened};
 ghost use Rattle.record.specs.Fields.{fields};
 ghost use Rattle.record.specs.Read.{readingOf};
 ghost use Rattle.record.specs.Write.{writingFrom, writtenFrom};
 ghost use Rattle.catalogue.specs.Call.{catalogueOf, catalogueCells};
 ghost use Rattle.register_c.specs.Packing.{packed, packedAnswer, packedListing, packedReading, packedWriting};
-ghost use Rattle.register_c.specs.Calls.{recordAnswered, recordStepped};
-use record::Fields;
+ghost use Rattle.register_c.specs.Calls.{recordAnswered, recordStepped, fieldCells, fieldsReading, fieldsRead};
+use register::Fields;
+use register::Found;
 use register::Listing;
 use register::Opening;
 use register::Reading;
@@ -33,7 +34,46 @@ pub extern "C" fn register_length(servers: u32, drives: u32, slots: u32) -> u32
         drives,
         slots,
     };
-    layout::length_of(z) as u32
+    register::length_of(z) as u32
+}
+
+// The first cell of a server's record in a slot, 0 where a room of these sizes has no such place.
+#[no_mangle]
+pub extern "C" fn register_server_at(
+    servers: u32,
+    drives: u32,
+    slots: u32,
+    server: u32,
+    slot: u32,
+) -> u32
+    ensures { λ r. ⌜ r ≡ serverPlace (sizes servers drives slots) server slot ⌝ }
+{
+    let z = Sizes {
+        servers,
+        drives,
+        slots,
+    };
+    register::server_place(z, server, slot) as u32
+}
+
+// The first cell of a server's block on a drive in a slot, 0 likewise.
+#[no_mangle]
+pub extern "C" fn register_block_at(
+    servers: u32,
+    drives: u32,
+    slots: u32,
+    server: u32,
+    slot: u32,
+    drive: u32,
+) -> u32
+    ensures { λ r. ⌜ r ≡ blockPlace (sizes servers drives slots) server slot drive ⌝ }
+{
+    let z = Sizes {
+        servers,
+        drives,
+        slots,
+    };
+    register::block_place(z, server, slot, drive) as u32
 }
 
 // Makes the row a new room: 0, or the refusal's number.
@@ -72,6 +112,24 @@ pub extern "C" fn register_catalogue(room: &[u32], server: u32, cells: &mut [u32
     }
 }
 
+// Reads a record to its fields, which are stored in six cells: the length used, or the refusal.
+#[no_mangle]
+pub extern "C" fn register_fields(bytes: &[u8], fields: &mut [u32]) -> u64
+    ensures answer { λ r. ⌜ r ≡ packedReading (fieldsReading (now (bytes .entry)) (now (fields .entry))) ⌝ }
+    ensures cells { λ r. ⌜ now (fields .exit) ≡ fieldsRead (fieldsReading (now (bytes .entry)) (now (fields .entry))) (now (fields .entry)) ⌝ }
+{
+    if fields.len() != 6 {
+        return pack(REFUSED, 2);
+    }
+    match register::read_fields(bytes) {
+        Found::Record(f, used) => {
+            store_fields(fields, f);
+            used as u64
+        }
+        Found::Refused(number) => pack(REFUSED, number),
+    }
+}
+
 // Reads a record: the length used, or the refusal.
 #[no_mangle]
 pub extern "C" fn register_read(bytes: &[u8]) -> u64
@@ -106,10 +164,23 @@ pub extern "C" fn register_write(
         other,
         number,
     };
-    match record::write_fields(f, bytes) {
+    match register::write_fields(f, bytes) {
         Writing::Encoded(used) => used as u64,
         Writing::Refused(number) => pack(REFUSED, number),
     }
+}
+
+// The kind and the fields, each in its cell.
+fn store_fields(cells: &mut [u32], f: Fields)
+    requires { ⌜ length (now cells) ≡ 6 ⌝ }
+    ensures { λ r. ⌜ now (cells .exit) ≡ fieldCells f ⌝ }
+{
+    cells[0] = f.kind as u32;
+    cells[1] = f.server as u32;
+    cells[2] = f.slot as u32;
+    cells[3] = f.drive as u32;
+    cells[4] = f.other as u32;
+    cells[5] = f.number;
 }
 
 fn answer_word(a: Answer) -> u64
