@@ -1,14 +1,15 @@
--- A number and its bytes, low first.
+-- A number and its bytes, low first; bytes stored in a buffer.
 use Prim.Native.Nat.{ℕ, zero, suc, _+_, _*_, _<_, _≤_, _%_, _/_, _^_}
 use mathlib.Core.List.{List, [], _∷_, _++_}
-use mathlib.Core.Path.{_≡_, refl, _∙_, ap, ap₂}
+use mathlib.Core.Path.{_≡_, refl, _∙_, sym, ap, ap₂}
 use native.Mathlib.Nat.{zero-add, pow-suc}
 use native.Mathlib.Omega.{arith}
 use lib.Dec.{lit<}
 use lib.ListN.{length, getD, take, drop, set}
 use lib.Seq.{drop-cons, getD-drop, sets, sets-eq}
 use Rattle.record.specs.Read.{lowNumber, Bytes}
-use Rattle.record.specs.Write.{lowFirst}
+use Rattle.record.specs.Write.{lowFirst, writtenBy}
+use Rattle.record.specs.declared.Writing.{Writing}
 
 -- the number of the bytes from a place on: the first byte, and 256 times the number from the next place on
 pub low-more : (s : List ℕ) (at next w : ℕ) → at < length s → next ≡ suc at
@@ -51,6 +52,10 @@ put-more l at (suc w) v more =
 pub stored-first : (bytes l : List ℕ) → length bytes ≤ length l → sets l 0 bytes ≡ bytes ++ drop (length bytes) l
 stored-first bytes l h =
     sets-eq bytes l 0 (omega arith) ∙ ap (λ (n : ℕ). bytes ++ drop n l) (zero-add (length bytes))
+
+-- the answer decides what is left in the buffer
+pub says : (bytes buffer : List ℕ) {v w : Writing} → v ≡ w → (w ≡ v) × (writtenBy w bytes buffer ≡ writtenBy v bytes buffer)
+says bytes buffer e = (sym e, ap (λ (x : Writing). writtenBy x bytes buffer) (sym e))
 
 pub bytes-take : (n : ℕ) (s : List ℕ) → Bytes s → Bytes (take n s)
 bytes-take zero s h i = lit< tt

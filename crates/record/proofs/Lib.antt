@@ -1,11 +1,11 @@
 -- Laws of step records. What others cite is in Theorems and Accepted.
--- a number and its bytes, low first
+-- a number and its bytes, low first; bytes stored in a buffer
 pub mod Bytes
 -- the definitions at the five fields, as the code has them
 pub mod Five
--- the map that is written: its size, and the length that it asks for
+-- the map byte: its size, the length that it asks for, and the operations that make it and judge it
 pub mod MapLaws
--- maps that mark exactly the fields that are not 0
+-- maps that mark exactly the fields that are not 0; fields that the mask lacks
 pub mod Marks
 -- the ten kinds
 pub mod Steps

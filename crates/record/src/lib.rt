@@ -17,7 +17,7 @@ pub enum Reading {
     Refused(u32),
 }
 
-// The same with the fields of the step.
+// What reading to fields answers: the fields of the step with the length used, or the refusal's number.
 pub enum Found {
     Record(Fields, usize),
     Refused(u32),
@@ -39,7 +39,7 @@ pub fn read_record(bytes: &[u8]) -> Reading
     }
 }
 
-// The same, with the fields of the step in its place.
+// Reads the same record, and answers the fields of its step.
 pub fn read_fields(bytes: &[u8]) -> Found
     ensures { λ r. ⌜ r ≡ foundOf (now (bytes .entry)) ⌝ }
 {
@@ -76,7 +76,8 @@ pub fn write_record(step: Step, buffer: &mut [u8]) -> Writing
     store(fields::fields_of(step), buffer)
 }
 
-// Writes the record of the step of these fields, which is not made on the way; a kind that is none of the ten is refused.
+// Writes the record of the step of these fields. A field that the kind lacks is not looked at; a kind that is none of
+// the ten is refused.
 pub fn write_fields(f: Fields, buffer: &mut [u8]) -> Writing
     ensures answer { λ r. ⌜ r ≡ writingFrom f (now (buffer .entry)) ⌝ }
     ensures bytes { λ r. ⌜ now (buffer .exit) ≡ writtenFrom f (now (buffer .entry)) ⌝ }
@@ -87,7 +88,7 @@ pub fn write_fields(f: Fields, buffer: &mut [u8]) -> Writing
     store(f, buffer)
 }
 
-// Writes the record of these fields; one that the kind lacks is not looked at.
+// Writes the record of these fields, as it is for a step, with no step made.
 fn store(f: Fields, buffer: &mut [u8]) -> Writing
     ensures answer { λ r. ⌜ r ≡ storing (recordOfFields f) (now (buffer .entry)) ⌝ }
     ensures bytes { λ r. ⌜ now (buffer .exit) ≡ stored (recordOfFields f) (now (buffer .entry)) ⌝ }

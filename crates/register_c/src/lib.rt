@@ -112,7 +112,8 @@ pub extern "C" fn register_catalogue(room: &[u32], server: u32, cells: &mut [u32
     }
 }
 
-// Reads a record to its fields, which are stored in six cells: the length used, or the refusal.
+// Reads a record and stores its kind and fields in six cells, 0 for a field that the kind lacks: the length used, or the
+// refusal. Not six cells are refused with 2.
 #[no_mangle]
 pub extern "C" fn register_fields(bytes: &[u8], fields: &mut [u32]) -> u64
     ensures answer { λ r. ⌜ r ≡ packedReading (fieldsReading (now (bytes .entry)) (now (fields .entry))) ⌝ }

@@ -9,10 +9,9 @@ use lib.ListN.{length}
 use lib.Seq.{sets}
 use Rattle.checks.proofs.CheckLaws.{passes, fails}
 use Rattle.record.specs.Fields.{maskOf, valuesOf}
-use Rattle.record.specs.Write.{writeChecks, storing, writtenBy, stored, bytesOf, recordOfFields}
+use Rattle.record.specs.Write.{writeChecks, storing, stored, bytesOf, recordOfFields}
 use Rattle.record.specs.declared.Writing.the-variants.{Encoded, Refused}
-use Rattle.record.specs.declared.Writing.{Writing}
-use Rattle.record.proofs.Bytes.{stored-first}
+use Rattle.record.proofs.Bytes.{stored-first, says}
 use Rattle.record.proofs.MapLaws.{map-small, bytes-length}
 use Rattle.record.proofs.store.Statement.{statement}
 use Rattle.record.proofs.store.Tie as tie
@@ -34,16 +33,12 @@ length-is c =
     ∙ sym (bytes-length (c .before .map-of .result) (f .kind) (valuesOf f) refl)
     ∙ ap length (record-is (c .before))
 
--- the answer decides what is left in the buffer
-says : (bytes buffer : List ℕ) (w : Writing) → storing bytes buffer ≡ w
-    → (w ≡ storing bytes buffer) × (writtenBy w bytes buffer ≡ stored bytes buffer)
-unfolding stored
-says bytes buffer w e = (sym e, ap (λ (x : Writing). writtenBy x bytes buffer) (sym e))
-
 returns : tie.Need-returns
-unfolding storing writeChecks
+unfolding storing stored writeChecks
 returns c =
-    says _ _ (Refused 2) (fails Refused _ 2 _ (lt-leb _ _ (rw (length-is (c .before)) at (c .if1 .taken))))
+    let a = c .before .before .before .before .args in
+    says (recordOfFields (a .f)) (a .buffer .now)
+    (fails Refused _ 2 _ (lt-leb _ _ (rw (length-is (c .before)) at (c .if1 .taken))))
 
 put-fields-requires : tie.Need-put-fields-requires
 put-fields-requires c κs =
@@ -53,7 +48,7 @@ put-fields-requires c κs =
     (rw (at-map .map-of .ensures) small, rw (← c .before .before .record-length .ensures) (c .before .if1 .left))
 
 returns-2 : tie.Need-returns-2
-unfolding storing writeChecks
+unfolding storing stored writeChecks
 returns-2 c =
     let at-length = c .before .before .before .before .before in
     let a = at-length .before .before .before .args in
@@ -61,7 +56,7 @@ returns-2 c =
     let rec = recordOfFields (a .f) in
     let was = a .buffer .now in
     let fits : length rec ≤ length was = rw (length-is at-length) at (at-if .if1 .left) in
-    let told = says rec was (Encoded (length rec)) (passes Refused _ 2 _ (le-leb _ _ fits)) in (
+    let told = says rec was (passes Refused _ 2 _ (le-leb _ _ fits)) in (
       ap Encoded (length-is at-length) ∙ told .0,
       c .before .before .put-fields .ensures
           ∙ ap (λ (r : List ℕ). sets was 0 r) (record-is (at-length .before))

@@ -3,31 +3,26 @@
 use Prim.Native.Nat.{ℕ}
 use mathlib.Core.Bool.{not}
 use mathlib.Core.List.{List}
-use mathlib.Core.Path.{_≡_, _∙_, sym, ap}
+use mathlib.Core.Path.{_∙_, sym, ap}
 use borrow.Author.Needs.{needs}
 use Rattle.checks.proofs.CheckLaws.{passes, fails}
 use Rattle.record.specs.Fields.{stepOf}
-use Rattle.record.specs.Write.{recordOf, storing, stored, writtenBy, fieldsChecks, writingFrom, writtenFrom}
+use Rattle.record.specs.Write.{recordOf, storing, stored, fieldsChecks, writingFrom, writtenFrom}
 use Rattle.record.specs.declared.Writing.the-variants.{Refused}
-use Rattle.record.specs.declared.Writing.{Writing}
-use Rattle.record.specs.declared.fields.Fields.{Fields}
+use Rattle.record.proofs.Bytes.{says}
 use Rattle.record.proofs.Steps.{fields-record}
 use Rattle.record.proofs.write_fields.Statement.{statement}
 use Rattle.record.proofs.write_fields.Tie as tie
 
--- the answer decides what is left in the buffer
-says : (f : Fields) (buffer : List ℕ) (w : Writing) → writingFrom f buffer ≡ w
-    → (w ≡ writingFrom f buffer) × (writtenBy w (recordOf (stepOf f)) buffer ≡ writtenFrom f buffer)
-unfolding writtenFrom
-says f buffer w e = (sym e, ap (λ (x : Writing). writtenBy x (recordOf (stepOf f)) buffer) (sym e))
-
 returns : tie.Need-returns
-unfolding writingFrom fieldsChecks
+unfolding writingFrom writtenFrom fieldsChecks
 returns c =
-    says _ _ (Refused 15) (fails Refused _ 15 _ (ap not (sym (c .before .unknown .ensures) ∙ c .if1 .taken)))
+    let a = c .before .before .before .args in
+    says (recordOf (stepOf (a .f))) (a .buffer .now)
+    (fails Refused _ 15 _ (ap not (sym (c .before .unknown .ensures) ∙ c .if1 .taken)))
 
 returns-2 : tie.Need-returns-2
-unfolding writingFrom fieldsChecks storing stored
+unfolding writingFrom writtenFrom fieldsChecks storing stored
 returns-2 c =
     let at-store = c .before .before in
     let at-if = at-store .before .before in
@@ -36,7 +31,7 @@ returns-2 c =
     let old = a .buffer .now in
     let known = sym (at-unknown .unknown .ensures) ∙ at-if .if1 .left in
     let same = sym (fields-record (a .f) known) in
-    let told = says (a .f) old (storing (recordOf (stepOf (a .f))) old) (passes Refused _ 15 _ (ap not known)) in (
+    let told = says (recordOf (stepOf (a .f))) old (passes Refused _ 15 _ (ap not known)) in (
       at-store .store .ensures .0 ∙ ap (λ (bytes : List ℕ). storing bytes old) same ∙ told .0,
       at-store .store .ensures .1 ∙ ap (λ (bytes : List ℕ). stored bytes old) same ∙ told .1,
     )

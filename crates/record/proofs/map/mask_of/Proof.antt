@@ -10,6 +10,7 @@ use Rattle.record.specs.Fields.{maskOf, fieldTable}
 use Rattle.record.proofs.map.mask_of.Statement.{statement}
 use Rattle.record.proofs.map.mask_of.Tie as tie
 
+-- a number from n on that is none of five is past them
 past-five : (k n : ℕ) → n ≤ k → (k ≡ n → ⊥) → (k ≡ n + 1 → ⊥) → (k ≡ n + 2 → ⊥) → (k ≡ n + 3 → ⊥) → (k ≡ n + 4 → ⊥) → n + 5 ≤ k
 past-five k n h a b c d e = omega arith
 
