@@ -9,27 +9,32 @@
 #define SLOTS 1
 
 /* The coin: piece 5 enters hoard 9. */
-#define COIN (1u << 16 | 5u << 8 | 9u)
+#define COIN REGISTER_ENTER(5, 9)
 
 static uint32_t room[REGISTER_MOST_CELLS];
 static size_t cells;
 
+/* Says what was refused and why. */
+static int refused(const char *what, uint32_t refusal)
+{
+    printf("%s: %s (%" PRIu32 ")\n", what, register_message(refusal), refusal);
+    return 1;
+}
+
 /* Writes a step's record, takes the step, and prints its answer. */
-static int step(uint8_t kind, uint8_t server, uint8_t drive, uint8_t other, uint32_t number)
+static int step(uint32_t kind, uint8_t server, uint8_t drive, uint8_t other, uint32_t number)
 {
     static const char *const kinds[] = {"no step", "offer",  "recall", "rejoin",    "bid",     "write",
                                         "read",    "finish", "fail",   "drive off", "drive on"};
     static const char *const words[] = {"done", "outbid", "chosen", "committed", "refused"};
     uint8_t record[REGISTER_LONGEST_RECORD];
-    uint64_t length = register_write(kind, server, 0, drive, other, number, record, sizeof record);
-    if (REGISTER_WORD(length) == REGISTER_REFUSED) {
-        printf("no record: %" PRIu32 "\n", REGISTER_NUMBER(length));
-        return 1;
-    }
+    uint64_t length = register_write((uint8_t)kind, server, 0, drive, other, number, record, sizeof record);
+    if (REGISTER_WORD(length) == REGISTER_REFUSED)
+        return refused("no record", REGISTER_NUMBER(length));
     uint64_t answer = register_step(room, cells, record, REGISTER_NUMBER(length));
     printf("%s, server %d, drive %d: %s %" PRIu32 "\n", kinds[kind], server, drive, words[REGISTER_WORD(answer)],
            REGISTER_NUMBER(answer));
-    return REGISTER_WORD(answer) == REGISTER_REFUSED;
+    return REGISTER_WORD(answer) == REGISTER_REFUSED ? refused(kinds[kind], REGISTER_NUMBER(answer)) : 0;
 }
 
 /* One phase: the server writes its block to two drives, a majority, reads the other
@@ -37,9 +42,10 @@ static int step(uint8_t kind, uint8_t server, uint8_t drive, uint8_t other, uint
 static int phase(uint8_t server, uint8_t first)
 {
     int bad = 0;
+    uint8_t other = server == 0 ? 1 : 0;
     for (uint8_t drive = first; drive < first + 2; drive++) {
         bad |= step(REGISTER_WRITE, server, drive, 0, 0);
-        bad |= step(REGISTER_READ, server, drive, 1 - server, 0);
+        bad |= step(REGISTER_READ, server, drive, other, 0);
     }
     return bad | step(REGISTER_FINISH, server, 0, 0, 0);
 }
@@ -60,10 +66,8 @@ static int catalogue(uint32_t server)
 {
     uint32_t hoards[REGISTER_PIECES];
     uint64_t answer = register_catalogue(room, cells, server, hoards, REGISTER_PIECES);
-    if (REGISTER_WORD(answer) == REGISTER_REFUSED) {
-        printf("catalogue refused %" PRIu32 "\n", REGISTER_NUMBER(answer));
-        return 1;
-    }
+    if (REGISTER_WORD(answer) == REGISTER_REFUSED)
+        return refused("catalogue", REGISTER_NUMBER(answer));
     printf("catalogue of server %" PRIu32 ": taken %" PRIu32 ", skipped %" PRIu32 "\n", server,
            REGISTER_NUMBER(answer) / 256, REGISTER_NUMBER(answer) % 256);
     for (int piece = 0; piece < REGISTER_PIECES; piece++)
@@ -76,10 +80,8 @@ int main(void)
 {
     cells = register_length(SERVERS, DRIVES, SLOTS);
     uint32_t refusal = register_open(room, cells, SERVERS, DRIVES, SLOTS);
-    if (refusal != 0) {
-        printf("open refused %" PRIu32 "\n", refusal);
-        return 1;
-    }
+    if (refusal != 0)
+        return refused("open", refusal);
     printf("a room of %zu cells\n", cells);
     /* Server 0 offers the coin and settles it on drives 0 and 1. Then drive 0 goes off:
      * server 1 offers nothing, and settles the same command on drives 1 and 2. */

@@ -1,4 +1,4 @@
-/* The hoard register for C.
+/* The hoard register for C and C++.
  *
  * Link with libregister_c.a, which `rt staticlib register_c` writes to
  * target/staticlib. It needs nothing but memset of the C library.
@@ -11,16 +11,6 @@
  * aligned and not null, and what a call writes overlaps nothing else that is lent to
  * the same call. A length of 0 still wants a pointer that is not null. No call keeps
  * a pointer. Two calls at the same time must not share a row that one of them writes.
- *
- * Refusals:
- *    1 sizes outside their range         9 drive not written in this phase
- *    2 wrong length of cells or bytes   10 no majority
- *    3 a cell out of range, or no room  11 ballot not above those known
- *    4 beyond the room                  12 no command seen and none offered
- *    5 not a command                    13 outbid, and no ballot left
- *    6 not a ballot of this server      14 record cut short
- *    7 wrong phase                      15 record malformed
- *    8 drive off
  */
 #ifndef REGISTER_H
 #define REGISTER_H
@@ -32,10 +22,12 @@
 extern "C" {
 #endif
 
-/* The most cells of a room, the cells of a catalogue, the bytes of the longest record. */
+/* The most cells of a room, the cells of a catalogue, the bytes of the longest record,
+ * the fields of a record. */
 #define REGISTER_MOST_CELLS 1988
 #define REGISTER_PIECES 64
 #define REGISTER_LONGEST_RECORD 8
+#define REGISTER_FIELDS 6
 
 /* The word of an answer: its upper half. */
 #define REGISTER_DONE 0u
@@ -45,8 +37,65 @@ extern "C" {
 #define REGISTER_REFUSED 4u
 
 /* The word and the number of an answer. */
-#define REGISTER_WORD(answer) ((uint32_t)((answer) >> 32))
+#define REGISTER_WORD(answer) ((uint32_t)((uint64_t)(answer) >> 32))
 #define REGISTER_NUMBER(answer) ((uint32_t)(answer))
+
+/* The refusals: the number of an answer whose word is refused. Of those that apply the
+ * lowest is given; a record has an order of its own. */
+#define REGISTER_E_SIZES 1u
+#define REGISTER_E_LENGTH 2u
+#define REGISTER_E_CELLS 3u
+#define REGISTER_E_BEYOND 4u
+#define REGISTER_E_NOT_A_COMMAND 5u
+#define REGISTER_E_NOT_ITS_BALLOT 6u
+#define REGISTER_E_WRONG_PHASE 7u
+#define REGISTER_E_DRIVE_OFF 8u
+#define REGISTER_E_NOT_WRITTEN 9u
+#define REGISTER_E_NO_MAJORITY 10u
+#define REGISTER_E_NOT_ABOVE 11u
+#define REGISTER_E_NOTHING_OFFERED 12u
+#define REGISTER_E_NO_BALLOT_LEFT 13u
+#define REGISTER_E_CUT_SHORT 14u
+#define REGISTER_E_MALFORMED 15u
+
+/* A sentence for a refusal, "unknown refusal" for any other number. */
+static inline const char *register_message(uint32_t refusal)
+{
+    switch (refusal) {
+    case REGISTER_E_SIZES:
+        return "the sizes fit no room: 1 to 4 servers, 1 to 7 drives, 1 to 16 slots";
+    case REGISTER_E_LENGTH:
+        return "the length of the lent cells or bytes is wrong";
+    case REGISTER_E_CELLS:
+        return "the lent row is no room, or a cell of it is out of range";
+    case REGISTER_E_BEYOND:
+        return "a server, slot or drive is beyond the room, or the other server is the server itself";
+    case REGISTER_E_NOT_A_COMMAND:
+        return "the number is not a command";
+    case REGISTER_E_NOT_ITS_BALLOT:
+        return "the ballot is 0, above 1,000,000 or another server's";
+    case REGISTER_E_WRONG_PHASE:
+        return "the server is in a phase that does not allow this step";
+    case REGISTER_E_DRIVE_OFF:
+        return "the drive is off";
+    case REGISTER_E_NOT_WRITTEN:
+        return "the drive was not written in this phase";
+    case REGISTER_E_NO_MAJORITY:
+        return "no majority of drives was recalled, or written and read";
+    case REGISTER_E_NOT_ABOVE:
+        return "the ballot is not above those that the server knows";
+    case REGISTER_E_NOTHING_OFFERED:
+        return "no command was seen and none is offered";
+    case REGISTER_E_NO_BALLOT_LEFT:
+        return "the server was outbid and has no ballot left";
+    case REGISTER_E_CUT_SHORT:
+        return "the record is cut short";
+    case REGISTER_E_MALFORMED:
+        return "the record is malformed";
+    default:
+        return "unknown refusal";
+    }
+}
 
 /* The kinds of step. */
 #define REGISTER_OFFER 1u
@@ -60,9 +109,54 @@ extern "C" {
 #define REGISTER_DRIVE_OFF 9u
 #define REGISTER_DRIVE_ON 10u
 
+/* Commands: a piece (0 to 63) enters a hoard, moves to another, is struck. 0, which is
+ * no command, where the piece is above 63 or the hoard above 255; whether the cabinet
+ * of the piece has such a hoard is judged where the command is offered. An argument is
+ * evaluated more than once. */
+#define REGISTER_ENTER(piece, hoard) REGISTER_COMMAND(1u, piece, hoard)
+#define REGISTER_MOVE(piece, hoard) REGISTER_COMMAND(2u, piece, hoard)
+#define REGISTER_STRIKE(piece) REGISTER_COMMAND(3u, piece, 0u)
+#define REGISTER_COMMAND(kind, piece, hoard)                                             \
+    ((uint64_t)(piece) < REGISTER_PIECES && (uint64_t)(hoard) < 256u                     \
+         ? (kind) << 16 | (uint32_t)(piece) << 8 | (uint32_t)(hoard)                     \
+         : 0u)
+
+/* A command taken apart: 1 enters, 2 moves, 3 strikes; its piece; its hoard. */
+#define REGISTER_KIND_OF(command) ((uint32_t)(command) >> 16)
+#define REGISTER_PIECE_OF(command) ((uint32_t)(command) >> 8 & 255u)
+#define REGISTER_HOARD_OF(command) ((uint32_t)(command)&255u)
+
+/* The cell of the off marks: bit d says that drive d is off. */
+#define REGISTER_OFF_MARKS 3u
+
+/* The cells of a server's record, counted from the first. */
+#define REGISTER_SERVER_PHASE 0u
+#define REGISTER_SERVER_MBAL 1u
+#define REGISTER_SERVER_BAL 2u
+#define REGISTER_SERVER_INP 3u
+#define REGISTER_SERVER_OFFER 4u
+#define REGISTER_SERVER_TOP 5u
+#define REGISTER_SERVER_SEENBAL 6u
+#define REGISTER_SERVER_SEENINP 7u
+#define REGISTER_SERVER_WRITTEN 8u
+#define REGISTER_SERVER_READ 9u
+
+/* The cells of a block, counted from the first. */
+#define REGISTER_BLOCK_MBAL 0u
+#define REGISTER_BLOCK_BAL 1u
+#define REGISTER_BLOCK_INP 2u
+
 /* The number of cells of a room with so many servers (1 to 4), drives (1 to 7) and
  * slots (1 to 16); 0 where the sizes do not fit. */
 uint32_t register_length(uint32_t servers, uint32_t drives, uint32_t slots);
+
+/* The first cell of a server's record in a slot, in a room of these sizes; 0 where the
+ * sizes do not fit or the place is beyond the room. */
+uint32_t register_server_at(uint32_t servers, uint32_t drives, uint32_t slots, uint32_t server, uint32_t slot);
+
+/* The first cell of a server's block on a drive in a slot; 0 likewise. */
+uint32_t register_block_at(uint32_t servers, uint32_t drives, uint32_t slots, uint32_t server, uint32_t slot,
+                           uint32_t drive);
 
 /* Makes the row a new room of these sizes; what it held is not heeded. It has `cells`
  * cells, as many as register_length says. Answers 0, or the refusal: 1, 2. */
@@ -82,6 +176,11 @@ uint64_t register_catalogue(const uint32_t *room, size_t cells, uint32_t server,
 /* Judges the record at `bytes`. The answer is the length of the record, or refused
  * with 14 or 15. */
 uint64_t register_read(const uint8_t *bytes, size_t length);
+
+/* Reads the record at `bytes` and writes its kind, server, slot, drive, other and number
+ * to `fields`, of which there are `count`, which must be 6; a field that the kind lacks
+ * is 0. The answer is the length of the record, or refused with 2, 14 or 15. */
+uint64_t register_fields(const uint8_t *bytes, size_t length, uint32_t *fields, size_t count);
 
 /* Writes the record of a step to `bytes` and leaves later bytes alone; 8 bytes are
  * always enough. A field that the kind lacks is not looked at. `number` is the command

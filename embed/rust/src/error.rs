@@ -13,6 +13,7 @@ use std::fmt;
 /// assert_eq!(error.to_string(), "the sizes fit no room: 1 to 4 servers, 1 to 7 drives, 1 to 16 slots (refusal 1)");
 /// ```
 #[derive(Clone, Copy, Debug, PartialEq, Eq, Hash)]
+#[non_exhaustive]
 pub enum Error {
     /// 1: sizes outside their range.
     Sizes,
@@ -79,12 +80,14 @@ impl Error {
     /// assert_eq!(Error::of(8), Error::DriveOff);
     /// assert_eq!(Error::of(16), Error::Unknown(16));
     /// ```
+    #[must_use]
     pub fn of(number: u32) -> Error {
         let place = (number as usize).wrapping_sub(1);
         TEXTS.get(place).map_or(Error::Unknown(number), |&(error, _)| error)
     }
 
     /// The number of the refusal.
+    #[must_use]
     pub fn number(self) -> u32 {
         match self {
             Error::Unknown(number) => number,
@@ -96,6 +99,7 @@ impl Error {
     }
 
     /// What the refusal means.
+    #[must_use]
     pub fn text(self) -> &'static str {
         TEXTS
             .iter()

@@ -7,11 +7,11 @@
 //! be lent; a call that is refused with an [`Error`] changes nothing.
 //!
 //! ```
-//! use register::{Answer, Room, Step};
+//! use register::{Answer, Command, Room, Step};
 //!
 //! # fn main() -> Result<(), register::Error> {
 //! // One server and one drive settle a slot: piece 5 enters hoard 9.
-//! let enter = 0x1_05_09;
+//! let enter = Command::enter(5, 9)?.number();
 //! let mut room = Room::open(1, 1, 1)?;
 //! room.step(Step::Offer { server: 0, slot: 0, command: enter })?;
 //! room.step(Step::Recall { server: 0, slot: 0, drive: 0 })?;
@@ -27,13 +27,17 @@
 //! # }
 //! ```
 
+mod cells;
+mod command;
 mod error;
 mod raw;
 mod record;
 mod room;
 mod step;
 
+pub use cells::{block_at, server_at, Block, Server};
+pub use command::{Command, Kind};
 pub use error::Error;
 pub use record::{Record, LONGEST_RECORD};
-pub use room::{room_length, Catalogue, Room, PIECES};
+pub use room::{room_length, Catalogue, NotOpened, Room, PIECES};
 pub use step::{Answer, Step};

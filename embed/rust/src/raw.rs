@@ -21,7 +21,27 @@ mod library {
             out: *mut u32,
             length: usize,
         ) -> u64;
-        pub fn register_read(bytes: *const u8, length: usize) -> u64;
+        pub fn register_fields(
+            bytes: *const u8,
+            length: usize,
+            fields: *mut u32,
+            count: usize,
+        ) -> u64;
+        pub fn register_server_at(
+            servers: u32,
+            drives: u32,
+            slots: u32,
+            server: u32,
+            slot: u32,
+        ) -> u32;
+        pub fn register_block_at(
+            servers: u32,
+            drives: u32,
+            slots: u32,
+            server: u32,
+            slot: u32,
+            drive: u32,
+        ) -> u32;
         pub fn register_write(
             kind: u8,
             server: u8,
@@ -39,11 +59,13 @@ mod library {
 const REFUSED: u32 = 4;
 
 /// The word and the number of an answer.
+#[inline]
 fn halves(answer: u64) -> (u32, u32) {
     ((answer >> 32) as u32, answer as u32)
 }
 
 /// The number of an accepted call.
+#[inline]
 fn accepted(answer: u64) -> Result<u32, Error> {
     match halves(answer) {
         (REFUSED, number) => Err(Error::of(number)),
@@ -86,11 +108,21 @@ pub(crate) fn catalogue(room: &[u32], server: u32, out: &mut [u32]) -> Result<(u
     accepted(answer).map(|number| (number / 256, number % 256))
 }
 
-/// The length of the record at the start of `bytes`.
-pub(crate) fn read(bytes: &[u8]) -> Result<usize, Error> {
-    // SAFETY: the pointer and the length are those of a slice.
-    accepted(unsafe { library::register_read(bytes.as_ptr(), bytes.len()) })
-        .map(|used| used as usize)
+pub(crate) fn server_at(servers: u32, drives: u32, slots: u32, server: u32, slot: u32) -> u32 {
+    // SAFETY: numbers alone are passed.
+    unsafe { library::register_server_at(servers, drives, slots, server, slot) }
+}
+
+pub(crate) fn block_at(
+    servers: u32,
+    drives: u32,
+    slots: u32,
+    server: u32,
+    slot: u32,
+    drive: u32,
+) -> u32 {
+    // SAFETY: numbers alone are passed.
+    unsafe { library::register_block_at(servers, drives, slots, server, slot, drive) }
 }
 
 /// A step as numbers: its kind, and the fields that the kind has.
@@ -103,7 +135,25 @@ pub(crate) struct Fields {
     pub number: u32,
 }
 
+/// The fields of the record at the start of `bytes`, 0 where its kind lacks one;
+/// the length used.
+#[inline]
+pub(crate) fn fields(bytes: &[u8]) -> Result<(Fields, usize), Error> {
+    let mut cells = [0; 6];
+    // SAFETY: the pointers and the lengths are those of a slice and an array.
+    let answer = unsafe {
+        library::register_fields(bytes.as_ptr(), bytes.len(), cells.as_mut_ptr(), cells.len())
+    };
+    let used = accepted(answer)? as usize;
+    // All but the number came from single bytes.
+    let [kind, server, slot, drive, other, number] = cells;
+    let [kind, server, slot, drive, other] =
+        [kind, server, slot, drive, other].map(|field| field as u8);
+    Ok((Fields { kind, server, slot, drive, other, number }, used))
+}
+
 /// Writes the record of a step; the length used.
+#[inline]
 pub(crate) fn write(f: Fields, bytes: &mut [u8]) -> Result<usize, Error> {
     // SAFETY: the pointer and the length are those of a slice.
     let answer = unsafe {

@@ -1,6 +1,6 @@
 //! Step records: a step as bytes.
 
-use crate::raw::{self, Fields};
+use crate::raw;
 use crate::{Error, Step};
 
 /// The bytes of the longest record.
@@ -22,6 +22,7 @@ pub struct Record {
 
 impl Record {
     /// The record of a step.
+    #[must_use]
     pub fn of(step: Step) -> Record {
         let mut bytes = [0; LONGEST_RECORD];
         // The buffer is long enough for any record.
@@ -30,6 +31,7 @@ impl Record {
     }
 
     /// Its bytes.
+    #[must_use]
     pub fn bytes(&self) -> &[u8] {
         &self.bytes[..self.length]
     }
@@ -47,6 +49,12 @@ impl Step {
     /// assert_eq!(buffer, [0x02, 0x07, 3, 7]);
     /// assert_eq!(Step::Finish { server: 1, slot: 3 }.write(&mut buffer[..3]), Err(Error::Length));
     /// ```
+    ///
+    /// # Errors
+    ///
+    /// [`Error::Length`] where the record does not fit; [`LONGEST_RECORD`] bytes
+    /// are always enough.
+    #[inline]
     pub fn write(self, buffer: &mut [u8]) -> Result<usize, Error> {
         raw::write(self.fields(), buffer)
     }
@@ -61,18 +69,13 @@ impl Step {
     /// assert_eq!(Step::read(&bytes[3..]), Err(Error::CutShort));
     /// assert_eq!(Step::read(&[0x04, 0x07, 3]), Err(Error::Malformed));
     /// ```
+    ///
+    /// # Errors
+    ///
+    /// [`Error::CutShort`] and [`Error::Malformed`].
+    #[inline]
     pub fn read(bytes: &[u8]) -> Result<(Step, usize), Error> {
-        let length = raw::read(bytes)?;
-        Ok((Step::of_fields(fields_of(&bytes[..length])), length))
+        let (fields, length) = raw::fields(bytes)?;
+        Ok((Step::of_fields(fields), length))
     }
-}
-
-/// The fields of a record that the library accepts.
-fn fields_of(record: &[u8]) -> Fields {
-    let (map, kind) = (record[0], record[1]);
-    let mut rest = record[2..].iter().copied();
-    let mut byte = |bit: u8| if map >> bit & 1 == 1 { rest.next().unwrap_or(0) } else { 0 };
-    let (server, slot, drive, other) = (byte(0), byte(1), byte(2), byte(3));
-    let number = u32::from_le_bytes([byte(4), byte(4), byte(4), byte(4)]);
-    Fields { kind, server, slot, drive, other, number }
 }

@@ -1,5 +1,7 @@
 //! The room and its calls.
 
+use std::fmt;
+
 use crate::raw;
 use crate::{Answer, Error, Record, Step};
 
@@ -12,6 +14,7 @@ pub const PIECES: usize = 64;
 /// assert_eq!(register::room_length(4, 7, 16), Some(1988));
 /// assert_eq!(register::room_length(5, 7, 16), None);
 /// ```
+#[must_use]
 pub fn room_length(servers: u32, drives: u32, slots: u32) -> Option<usize> {
     match raw::length(servers, drives, slots) {
         0 => None,
@@ -20,7 +23,7 @@ pub fn room_length(servers: u32, drives: u32, slots: u32) -> Option<usize> {
 }
 
 /// A row of cells that is used as a room: a `Vec<u32>` that it owns, or any other
-/// row, such as a `&mut [u32]` that is lent.
+/// row, such as a `&mut [u32]` that is lent, or a `&[u32]` to look at.
 ///
 /// The cells may hold anything: each call judges them all and is refused with
 /// [`Error::Cells`] where they are no room.
@@ -45,6 +48,7 @@ pub struct Room<R = Vec<u32>> {
 
 /// What one server knows of the pieces.
 #[derive(Clone, Copy, Debug, PartialEq, Eq)]
+#[non_exhaustive]
 pub struct Catalogue {
     /// Each piece's hoard, 0 for a piece that is in none.
     pub hoards: [u32; PIECES],
@@ -54,6 +58,38 @@ pub struct Catalogue {
     pub skipped: u32,
 }
 
+/// A row that was not opened, handed back with the reason.
+///
+/// ```
+/// use register::{Error, Room};
+///
+/// let row = vec![7; 18];
+/// let not_opened = Room::open_in(row, 1, 1, 1).unwrap_err();
+/// assert_eq!(not_opened.error, Error::Length);
+/// assert_eq!(not_opened.row, [7; 18]);
+/// ```
+#[derive(Clone, Copy, Debug, PartialEq, Eq)]
+pub struct NotOpened<R> {
+    /// Why it was not opened.
+    pub error: Error,
+    /// The row, as it was.
+    pub row: R,
+}
+
+impl<R> From<NotOpened<R>> for Error {
+    fn from(not_opened: NotOpened<R>) -> Error {
+        not_opened.error
+    }
+}
+
+impl<R> fmt::Display for NotOpened<R> {
+    fn fmt(&self, f: &mut fmt::Formatter<'_>) -> fmt::Result {
+        write!(f, "the row was not opened: {}", self.error)
+    }
+}
+
+impl<R: fmt::Debug> std::error::Error for NotOpened<R> {}
+
 impl Room<Vec<u32>> {
     /// A new room that owns its cells.
     ///
@@ -62,32 +98,48 @@ impl Room<Vec<u32>> {
     /// assert_eq!(room.cells().len(), 156);
     /// # Ok::<(), register::Error>(())
     /// ```
+    ///
+    /// # Errors
+    ///
+    /// [`Error::Sizes`] where the sizes do not fit.
     pub fn open(servers: u32, drives: u32, slots: u32) -> Result<Self, Error> {
         let cells = room_length(servers, drives, slots).ok_or(Error::Sizes)?;
-        Room::open_in(vec![0; cells], servers, drives, slots)
+        Ok(Room::open_in(vec![0; cells], servers, drives, slots)?)
     }
 }
 
-impl<R: AsRef<[u32]> + AsMut<[u32]>> Room<R> {
-    /// Makes a row a new room. What the cells held is not heeded.
-    pub fn open_in(mut row: R, servers: u32, drives: u32, slots: u32) -> Result<Self, Error> {
-        raw::open(row.as_mut(), servers, drives, slots)?;
-        Ok(Room { row })
-    }
-
+impl<R> Room<R> {
     /// A row that was opened before, or any other.
+    #[must_use]
     pub fn over(row: R) -> Self {
         Room { row }
     }
 
-    /// The cells.
-    pub fn cells(&self) -> &[u32] {
-        self.row.as_ref()
-    }
-
     /// The row, handed back.
+    #[must_use]
     pub fn into_row(self) -> R {
         self.row
+    }
+}
+
+impl<R: AsMut<[u32]>> Room<R> {
+    /// Makes a row a new room. What the cells held is not heeded.
+    ///
+    /// # Errors
+    ///
+    /// [`NotOpened`], which hands the row back as it was: with [`Error::Sizes`]
+    /// where the sizes do not fit, with [`Error::Length`] where the row is not as
+    /// long as [`room_length`] says.
+    pub fn open_in(
+        mut row: R,
+        servers: u32,
+        drives: u32,
+        slots: u32,
+    ) -> Result<Self, NotOpened<R>> {
+        match raw::open(row.as_mut(), servers, drives, slots) {
+            Ok(()) => Ok(Room { row }),
+            Err(error) => Err(NotOpened { error, row }),
+        }
     }
 
     /// Takes one step.
@@ -101,6 +153,12 @@ impl<R: AsRef<[u32]> + AsMut<[u32]>> Room<R> {
     /// assert_eq!(room.step(recall), Err(Error::DriveOff));
     /// # Ok::<(), Error>(())
     /// ```
+    ///
+    /// # Errors
+    ///
+    /// [`Error::Cells`] where the row is no room; then, by the step, the errors
+    /// from [`Error::Beyond`] to [`Error::NoBallotLeft`]: of those that apply the
+    /// one with the lowest number.
     pub fn step(&mut self, step: Step) -> Result<Answer, Error> {
         self.step_record(Record::of(step).bytes())
     }
@@ -115,9 +173,22 @@ impl<R: AsRef<[u32]> + AsMut<[u32]>> Room<R> {
     /// assert_eq!(room.step_record(&[0x04, 0x09]), Err(Error::CutShort));
     /// # Ok::<(), Error>(())
     /// ```
+    ///
+    /// # Errors
+    ///
+    /// [`Error::CutShort`] and [`Error::Malformed`] where the record cannot be
+    /// read; otherwise those of [`Room::step`].
     pub fn step_record(&mut self, record: &[u8]) -> Result<Answer, Error> {
         let (word, number) = raw::step(self.row.as_mut(), record);
         Answer::of(word, number)
+    }
+}
+
+impl<R: AsRef<[u32]>> Room<R> {
+    /// The cells.
+    #[must_use]
+    pub fn cells(&self) -> &[u32] {
+        self.row.as_ref()
     }
 
     /// What one server knows of the pieces.
@@ -128,6 +199,11 @@ impl<R: AsRef<[u32]> + AsMut<[u32]>> Room<R> {
     /// assert_eq!(room.catalogue(2), Err(register::Error::Beyond));
     /// # Ok::<(), register::Error>(())
     /// ```
+    ///
+    /// # Errors
+    ///
+    /// [`Error::Cells`] where the row is no room, [`Error::Beyond`] where it has no
+    /// such server.
     pub fn catalogue(&self, server: u32) -> Result<Catalogue, Error> {
         let mut hoards = [0; PIECES];
         let (taken, skipped) = self.catalogue_in(server, &mut hoards)?;
@@ -135,6 +211,11 @@ impl<R: AsRef<[u32]> + AsMut<[u32]>> Room<R> {
     }
 
     /// The same in 64 lent cells: how many commands were taken and skipped.
+    ///
+    /// # Errors
+    ///
+    /// [`Error::Length`] where the lent cells are not 64; otherwise those of
+    /// [`Room::catalogue`].
     pub fn catalogue_in(&self, server: u32, hoards: &mut [u32]) -> Result<(u32, u32), Error> {
         raw::catalogue(self.row.as_ref(), server, hoards)
     }

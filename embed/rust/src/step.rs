@@ -12,7 +12,7 @@ pub enum Step {
         server: u8,
         /// The slot.
         slot: u8,
-        /// kind * 65,536 + piece * 256 + hoard; kind 1 enters, 2 moves, 3 strikes.
+        /// The number of a [`Command`](crate::Command); the step is refused where it is none.
         command: u32,
     },
     /// After a failure the server reads its own block on the drive.
@@ -88,6 +88,7 @@ pub enum Step {
 
 impl Step {
     /// The kind and the fields, 0 where the kind has no such field.
+    #[inline]
     pub(crate) fn fields(self) -> Fields {
         let fields = |kind, server, slot, drive, other, number| Fields {
             kind,
@@ -112,6 +113,7 @@ impl Step {
     }
 
     /// The step of a kind from 1 to 10 with these fields.
+    #[inline]
     pub(crate) fn of_fields(f: Fields) -> Step {
         let Fields { kind, server, slot, drive, other, number } = f;
         match kind {
@@ -131,6 +133,7 @@ impl Step {
 
 /// What an accepted step answers.
 #[derive(Clone, Copy, Debug, PartialEq, Eq, Hash)]
+#[non_exhaustive]
 pub enum Answer {
     /// The step was done.
     Done,

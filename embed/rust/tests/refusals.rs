@@ -52,7 +52,7 @@ fn each_is_met() {
     assert_eq!(silent.step(read), Ok(Answer::Done));
     let met = [
         Room::open(1, 8, 1).expect_err("eight drives are too many"),
-        Room::open_in(vec![0; 18], 1, 1, 1).expect_err("a room of one has 17 cells"),
+        Room::open_in(vec![0; 18], 1, 1, 1).expect_err("a room of one has 17 cells").error,
         refusal(Room::over(vec![9; 17]), Step::Fail { server }),
         refusal(bidding(1), Step::Read { server, slot, drive, other: server }),
         refusal(bidding(1), Step::Offer { server, slot, command: 81_725 }),

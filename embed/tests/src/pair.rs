@@ -1,7 +1,7 @@
 //! One row of cells, lent to both implementations.
 
 use other::{Answer, Step};
-use register::{Error, Room};
+use register::{Error, NotOpened, Room};
 
 use crate::same::{answer, register_step};
 
@@ -35,11 +35,17 @@ impl Pair {
     /// Opens the row.
     pub fn open(&mut self, servers: u32, drives: u32, slots: u32) -> Result<(), u32> {
         let theirs = other::open(&mut self.theirs, servers, drives, slots);
-        let mut cells = std::mem::replace(&mut self.mine, Room::over(Vec::new())).into_row();
-        let mine = Room::open_in(&mut cells[..], servers, drives, slots)
-            .map(|_| ())
-            .map_err(Error::number);
-        self.mine = Room::over(cells);
+        let cells = std::mem::replace(&mut self.mine, Room::over(Vec::new())).into_row();
+        let mine = match Room::open_in(cells, servers, drives, slots) {
+            Ok(room) => {
+                self.mine = room;
+                Ok(())
+            }
+            Err(NotOpened { error, row }) => {
+                self.mine = Room::over(row);
+                Err(error.number())
+            }
+        };
         assert_eq!(mine, theirs, "open {servers} {drives} {slots} in {} cells", self.theirs.len());
         self.compare(theirs.is_err(), "open");
         theirs

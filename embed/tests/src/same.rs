@@ -32,6 +32,7 @@ pub fn answer(answer: Result<register::Answer, Error>) -> Answer {
         Ok(register::Answer::Outbid(ballot)) => Answer::Outbid(ballot),
         Ok(register::Answer::Chosen(command)) => Answer::Chosen(command),
         Ok(register::Answer::Committed(command)) => Answer::Committed(command),
+        Ok(answer) => panic!("an answer that no step has: {answer:?}"),
         Err(error) => Answer::Refused(error.number()),
     }
 }
