@@ -23,10 +23,11 @@ pub fn print(lines: &[Line]) {
     }
 }
 
-/// Whether there is a bound on it. Among rooms there is one on the largest alone.
+/// Whether there is a bound on it. Among rooms there is one on the largest alone, and
+/// none where it is mixed, as no run leaves it: that shows what the worst room costs.
 fn is_bounded(on: On) -> bool {
     match on {
-        On::Room(sizes, _) => sizes.length() == MOST_CELLS,
+        On::Room(sizes, state) => sizes.length() == MOST_CELLS && state != "mixed",
         On::Records { .. } => true,
     }
 }

@@ -30,6 +30,7 @@ fn main() {
         let states = [
             ("empty", rooms::empty(sizes).room),
             ("settled", rooms::settled(sizes)),
+            ("mixed", rooms::mixed(sizes)),
             ("run", rooms::run(sizes).last),
         ];
         for (state, room) in states {

@@ -56,6 +56,24 @@ pub fn settled(sizes: Sizes) -> Vec<u32> {
     room
 }
 
+/// The same, but with another ballot and command in every block: no run leaves the
+/// drives so, and no block is like the one on the drive before it.
+pub fn mixed(sizes: Sizes) -> Vec<u32> {
+    let mut room = settled(sizes);
+    let mut chance = Chance::new(4);
+    for slot in 0..sizes.slots {
+        for drive in 0..sizes.drives {
+            for server in 0..sizes.servers {
+                let at = sizes.block_at(slot, drive, server);
+                let ballots = [chance.below(900_000), chance.below(900_000)];
+                room[at..at + 2].copy_from_slice(&ballots);
+                room[at + 2] = command(&mut chance);
+            }
+        }
+    }
+    room
+}
+
 /// Two rooms, and the records of the steps that lead from one to the other.
 pub struct Run {
     pub first: Vec<u32>,
