@@ -5,15 +5,18 @@ use mathlib.Core.Bool.{Bool, true, _&&_, and-true, and-assoc}
 use mathlib.Core.List.{List}
 use native.Mathlib.Omega.{arith}
 use native.Mathlib.Nat.{add-zero, add-suc}
+use borrow.Author.Tests.{eqb-true}
 use lib.Bits.{bitOr, or-add-and, and-le-l, and-le-r}
+use lib.Dec.{eqb}
+use Rattle.lemmas.proofs.Tests.{and-left, and-right}
 use Rattle.quorum.specs.Sets.{allBelow}
 use Rattle.quorum.proofs.AllBelow.{all-suc, all-both}
 use Rattle.command.specs.Tops.{topsOf, valueBy}
 use Rattle.command.proofs.TopLaws.{value-by-table}
-use Rattle.state.specs.declared.Block.{Block}
 use Rattle.layout.specs.Places.{blockLength}
 use Rattle.layout.specs.Cells.{blockIn}
-use Rattle.range.specs.Range.{valueFits, ballotsFit, blockFits, blocksFrom}
+use Rattle.range.specs.declared.Four.{Four}
+use Rattle.range.specs.Range.{valueFits, ballotsFit, blockFits, blocksFrom, fourIn, fourFit}
 
 -- the table of a room's limits judges values as the limits do
 pub by-table : (limits : List ℕ) → valueBy (topsOf limits) ≡ valueFits limits
@@ -33,36 +36,51 @@ unfolding valueBy
 zero-by tops = refl
 
 pub all-zero
-    : (tops : List ℕ) (a b c d : ℕ) → bitOr (bitOr (bitOr a b) c) d ≡ 0
-    → true ≡ (valueBy tops a && valueBy tops b && valueBy tops c && valueBy tops d)
-all-zero tops a b c d e =
-    let l = or-none (bitOr (bitOr a b) c) d e in
-    let k = or-none (bitOr a b) c (l .0) in
-    let j = or-none a b (k .0) in
+    : (tops : List ℕ) (v : Four) → bitOr (bitOr (bitOr (v .a) (v .b)) (v .c)) (v .d) ≡ 0 → true ≡ fourFit (valueBy tops) v
+all-zero tops v e =
+    let l = or-none (bitOr (bitOr (v .a) (v .b)) (v .c)) (v .d) e in
+    let k = or-none (bitOr (v .a) (v .b)) (v .c) (l .0) in
+    let j = or-none (v .a) (v .b) (k .0) in
     simp (j .0, j .1, k .1, l .1, zero-by)
 
--- a test of the four blocks from a cell on
-abbrev pub of-four : (Block → Bool) → List ℕ → ℕ → Bool
-of-four f cells at = allBelow 4 (λ j. f (blockIn cells (at + blockLength * j)))
+-- four values that are equal to four others pass as those do
+pub same-four
+    : (value : ℕ → Bool) (v w : Four) → v .a ≡ w .a → (eqb (v .b) (w .b) && eqb (v .c) (w .c) && eqb (v .d) (w .d)) ≡ true
+    → fourFit value v ≡ fourFit value w
+same-four value v w first rest =
+    let two = and-left (eqb (v .b) (w .b) && eqb (v .c) (w .c)) (eqb (v .d) (w .d)) rest in
+    let second = eqb-true (v .b) (w .b) (and-left _ _ two) in
+    let third = eqb-true (v .c) (w .c) (and-right (eqb (v .b) (w .b)) _ two) in
+    let fourth = eqb-true (v .d) (w .d) (and-right (eqb (v .b) (w .b) && eqb (v .c) (w .c)) _ rest) in
+    simp (first, second, third, fourth)
 
--- it is the test of each, by itself
+-- a test of the four blocks from a cell on is the test of each
 pub each-of-four
-    : (f : Block → Bool) (cells : List ℕ) (at : ℕ) (a b c d : Block) → a ≡ blockIn cells at → b ≡ blockIn cells (at + blockLength)
-    → c ≡ blockIn cells (at + blockLength * 2) → d ≡ blockIn cells (at + blockLength * 3)
-    → (f a && f b && f c && f d) ≡ of-four f cells at
+    : (f : ℕ → Bool) (at : ℕ)
+    → (f at && f (at + blockLength) && f (at + blockLength * 2) && f (at + blockLength * 3)) ≡ allBelow 4 (λ j. f (at + blockLength * j))
 unfolding allBelow
-each-of-four f cells at a b c d ea eb ec ed i =
+each-of-four f at =
     let here : at ≡ at + blockLength * 0 = omega arith in
-    f ((ea ∙ ap (blockIn cells) here) i) && f (eb i) && f (ec i) && f (ed i)
+    ap (λ (k : ℕ). f k && f (at + blockLength) && f (at + blockLength * 2) && f (at + blockLength * 3)) here
 
--- first the ballots of all four, then their values
+-- four blocks: first the ballots of all, then their values
 pub four-apart
     : (value : ℕ → Bool) (cells : List ℕ) (at : ℕ)
-    → blocksFrom value cells at 4 ≡ (of-four ballotsFit cells at && of-four (λ b. value (b .inp)) cells at)
+    → blocksFrom value cells at 4
+    ≡ (allBelow 4 (λ j. ballotsFit (blockIn cells (at + blockLength * j))) && fourFit value (fourIn cells at))
 unfolding blocksFrom blockFits
 four-apart value cells at =
-    let nth : ℕ → Block = λ j. blockIn cells (at + blockLength * j) in
-    all-both 4 (λ j. ballotsFit (nth j)) (λ j. value (nth j .inp))
+    let ballots : ℕ → Bool = λ j. ballotsFit (blockIn cells (at + blockLength * j)) in
+    let fits : ℕ → Bool = λ k. value (blockIn cells k .inp) in
+    all-both 4 ballots (λ j. fits (at + blockLength * j))
+    ∙ ap (λ (t : Bool). allBelow 4 ballots && t) (sym (each-of-four fits at))
+
+-- so where four blocks are in range their values are
+pub values-of-four
+    : (value : ℕ → Bool) (cells : List ℕ) (at : ℕ) → blocksFrom value cells at 4 ≡ true → fourFit value (fourIn cells at) ≡ true
+values-of-four value cells at e =
+    and-right (allBelow 4 (λ j. ballotsFit (blockIn cells (at + blockLength * j)))) (fourFit value (fourIn cells at))
+    (sym (four-apart value cells at) ∙ e)
 
 -- blocks in a row: in two parts, by fours, and by fours with a rest
 module _ (value : ℕ → Bool) (cells : List ℕ) (first : ℕ) where

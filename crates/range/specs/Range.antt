@@ -13,6 +13,7 @@ use Rattle.state.specs.declared.Sizes.{Sizes}
 use Rattle.layout.specs.Places.{base, blockLength, sizesFit, roomLength, nthBlockAt}
 use Rattle.layout.specs.Cells.{sizesOf, offOf, limitsOf, serverOf, blockIn}
 use Rattle.range.specs.declared.Masks.{Masks}
+use Rattle.range.specs.declared.Four.{Four}
 
 -- the marks that may stand: of drives, and of blocks read (bit 4d + q)
 unfoldable pub legalDrives : Sizes → ℕ
@@ -54,6 +55,20 @@ blockFits value b = ballotsFit b && value (b .inp)
 -- n blocks that stand one after the other from a cell on
 unfoldable pub blocksFrom : (ℕ → Bool) → List ℕ → ℕ → ℕ → Bool
 blocksFrom value cells first n = allBelow n (λ j. blockFits value (blockIn cells (first + blockLength * j)))
+
+-- the values of the four blocks from a cell on
+abbrev pub fourIn : List ℕ → ℕ → Four
+fourIn cells at =
+    record {
+      a = blockIn cells at .inp;
+      b = blockIn cells (at + blockLength) .inp;
+      c = blockIn cells (at + blockLength * 2) .inp;
+      d = blockIn cells (at + blockLength * 3) .inp;
+    }
+
+-- four values
+abbrev pub fourFit : (ℕ → Bool) → Four → Bool
+fourFit value v = value (v .a) && value (v .b) && value (v .c) && value (v .d)
 
 -- every server record of slot s
 unfoldable pub serversFit : (ℕ → Bool) → Sizes → List ℕ → ℕ → Bool

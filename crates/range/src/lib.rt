@@ -1,13 +1,13 @@
 // The range rule: whether a row of cells is a room with every cell in range.
 ghost use mathlib.Core.Path.{_≡_};
-ghost use mathlib.Core.Bool.{_&&_};
-ghost use Prim.Native.Nat.{_+_, _*_, _<_, _≤_};
+ghost use mathlib.Core.Bool.{true};
+ghost use Prim.Native.Nat.{_+_, _-_, _*_, _<_, _≤_};
 ghost use lib.ListN.{length};
 ghost use Rattle.command.specs.Tops.{valueBy};
 ghost use Rattle.quorum.specs.Sets.{allBelow};
 ghost use Rattle.layout.specs.Places.{serverLength, blockLength, Fit, Row};
-ghost use Rattle.layout.specs.Cells.{serverIn};
-ghost use Rattle.range.specs.Range.{masksOf, numbersFit, serverFits, ballotsFit, blockFits, blocksFrom, slotFits, inRange};
+ghost use Rattle.layout.specs.Cells.{serverIn, blockIn};
+ghost use Rattle.range.specs.Range.{masksOf, numbersFit, serverFits, ballotsFit, blockFits, blocksFrom, fourIn, fourFit, slotFits, inRange};
 use command::is_value;
 use command::tops_of;
 use layout::block_in;
@@ -25,6 +25,14 @@ use state::Sizes;
 pub struct Masks {
     pub drives: u32,
     pub reads: u32,
+}
+
+// Four values, judged together.
+struct Four {
+    a: u32,
+    b: u32,
+    c: u32,
+    d: u32,
 }
 
 // A row of ones at every fourth bit, cut after the last drive, times the ones of the servers.
@@ -112,13 +120,20 @@ fn blocks_fit(room: &[u32], tops: &[u8; 96], first: usize, count: usize) -> bool
     rest_fit(room, tops, rest, count % 4)
 }
 
+// The first four by itself, each other after the four before it.
 fn fours_fit(room: &[u32], tops: &[u8; 96], first: usize, count: usize) -> bool
     requires { ⌜ first + blockLength * (4 * count) ≤ length (now room) ⌝ }
     ensures { λ r. ⌜ r ≡ allBelow count (λ q. blocksFrom (valueBy (now (tops .entry))) (now (room .entry)) (first + blockLength * (4 * q)) 4) ⌝ }
 {
-    let mut q = 0;
+    if count == 0 {
+        return true;
+    }
+    if !four_fit(room, tops, first) {
+        return false;
+    }
+    let mut q = 1;
     while q < count {
-        if !four_fit(room, tops, first + layout::BLOCK_CELLS * (4 * q)) {
+        if !four_after(room, tops, first + layout::BLOCK_CELLS * (4 * q)) {
             return false;
         }
         q += 1;
@@ -147,7 +162,13 @@ fn server_fits(tops: &[u8; 96], k: Masks, v: Server) -> bool
     if !numbers_fit(k, v) {
         return false;
     }
-    values_fit(tops, v.inp, v.offer, v.seeninp, 0)
+    let values = Four {
+        a: v.inp,
+        b: v.offer,
+        c: v.seeninp,
+        d: 0,
+    };
+    values_fit(tops, values)
 }
 
 fn numbers_fit(k: Masks, v: Server) -> bool
@@ -167,14 +188,48 @@ fn four_fit(room: &[u32], tops: &[u8; 96], at: usize) -> bool
     requires { ⌜ at + blockLength * 4 ≤ length (now room) ⌝ }
     ensures { λ r. ⌜ r ≡ blocksFrom (valueBy (now (tops .entry))) (now (room .entry)) at 4 ⌝ }
 {
-    let a = block_in(room, at);
-    let b = block_in(room, at + layout::BLOCK_CELLS);
-    let c = block_in(room, at + layout::BLOCK_CELLS * 2);
-    let d = block_in(room, at + layout::BLOCK_CELLS * 3);
-    if !(ballots_fit(a) & ballots_fit(b) & ballots_fit(c) & ballots_fit(d)) {
+    if !four_ballots_fit(room, at) {
         return false;
     }
-    values_fit(tops, a.inp, b.inp, c.inp, d.inp)
+    values_fit(tops, four_values(room, at))
+}
+
+// Four blocks, where the four before them are in range. A server writes the same block to every drive, so the values are
+// often those of the four before.
+fn four_after(room: &[u32], tops: &[u8; 96], at: usize) -> bool
+    requires { ⌜ (blockLength * 4 ≤ at) × (at + blockLength * 4 ≤ length (now room)) × (blocksFrom (valueBy (now tops)) (now room) (at - blockLength * 4) 4 ≡ true) ⌝ }
+    ensures { λ r. ⌜ r ≡ blocksFrom (valueBy (now (tops .entry))) (now (room .entry)) at 4 ⌝ }
+{
+    if !four_ballots_fit(room, at) {
+        return false;
+    }
+    values_after(
+        tops,
+        four_values(room, at),
+        four_values(room, at - layout::BLOCK_CELLS * 4),
+    )
+}
+
+fn four_ballots_fit(room: &[u32], at: usize) -> bool
+    requires { ⌜ at + blockLength * 4 ≤ length (now room) ⌝ }
+    ensures { λ r. ⌜ r ≡ allBelow 4 (λ j. ballotsFit (blockIn (now (room .entry)) (at + blockLength * j))) ⌝ }
+{
+    ballots_fit(block_in(room, at))
+        & ballots_fit(block_in(room, at + layout::BLOCK_CELLS))
+        & ballots_fit(block_in(room, at + layout::BLOCK_CELLS * 2))
+        & ballots_fit(block_in(room, at + layout::BLOCK_CELLS * 3))
+}
+
+fn four_values(room: &[u32], at: usize) -> Four
+    requires { ⌜ at + blockLength * 4 ≤ length (now room) ⌝ }
+    ensures { λ r. ⌜ r ≡ fourIn (now (room .entry)) at ⌝ }
+{
+    Four {
+        a: block_in(room, at).inp,
+        b: block_in(room, at + layout::BLOCK_CELLS).inp,
+        c: block_in(room, at + layout::BLOCK_CELLS * 2).inp,
+        d: block_in(room, at + layout::BLOCK_CELLS * 3).inp,
+    }
 }
 
 // One block.
@@ -194,20 +249,43 @@ fn ballots_fit(b: Block) -> bool
 }
 
 // Four values. In most rooms most are 0, which one test finds.
-fn values_fit(tops: &[u8; 96], a: u32, b: u32, c: u32, d: u32) -> bool
-    ensures { λ r. ⌜ r ≡ (valueBy (now (tops .entry)) a && valueBy (now (tops .entry)) b && valueBy (now (tops .entry)) c && valueBy (now (tops .entry)) d) ⌝ }
+fn values_fit(tops: &[u8; 96], v: Four) -> bool
+    ensures { λ r. ⌜ r ≡ fourFit (valueBy (now (tops .entry))) v ⌝ }
 {
-    if (a | b | c | d) == 0 {
+    if (v.a | v.b | v.c | v.d) == 0 {
         return true;
     }
-    if !is_value(tops, a) {
+    each_fits(tops, v)
+}
+
+// Four values after four that are values: the same four need no look at the table. The first is compared by itself,
+// because it mostly differs where any does. Other orders of these tests were slower.
+fn values_after(tops: &[u8; 96], next: Four, judged: Four) -> bool
+    requires { ⌜ fourFit (valueBy (now tops)) judged ≡ true ⌝ }
+    ensures { λ r. ⌜ r ≡ fourFit (valueBy (now (tops .entry))) next ⌝ }
+{
+    if (next.a | next.b | next.c | next.d) == 0 {
+        return true;
+    }
+    if next.a == judged.a {
+        if (next.b == judged.b) & (next.c == judged.c) & (next.d == judged.d) {
+            return true;
+        }
+    }
+    each_fits(tops, next)
+}
+
+fn each_fits(tops: &[u8; 96], v: Four) -> bool
+    ensures { λ r. ⌜ r ≡ fourFit (valueBy (now (tops .entry))) v ⌝ }
+{
+    if !is_value(tops, v.a) {
         return false;
     }
-    if !is_value(tops, b) {
+    if !is_value(tops, v.b) {
         return false;
     }
-    if !is_value(tops, c) {
+    if !is_value(tops, v.c) {
         return false;
     }
-    is_value(tops, d)
+    is_value(tops, v.d)
 }
