@@ -23,8 +23,8 @@ pub by-table : (limits : List ℕ) → valueBy (topsOf limits) ≡ valueFits lim
 unfolding valueFits
 by-table limits i v = value-by-table limits v i
 
--- four values of which none is above 0
-or-none : (a b : ℕ) → bitOr a b ≡ 0 → (a ≡ 0) × (b ≡ 0)
+-- values of which none is above 0
+pub or-none : (a b : ℕ) → bitOr a b ≡ 0 → (a ≡ 0) × (b ≡ 0)
 or-none a b e =
     let s = or-add-and a b in
     let l = and-le-l a b in

@@ -1,6 +1,6 @@
 // The range rule: whether a row of cells is a room with every cell in range.
 ghost use mathlib.Core.Path.{_≡_};
-ghost use mathlib.Core.Bool.{true};
+ghost use mathlib.Core.Bool.{true, _&&_};
 ghost use Prim.Native.Nat.{_+_, _-_, _*_, _<_, _≤_};
 ghost use lib.ListN.{length};
 ghost use Rattle.command.specs.Tops.{valueBy};
@@ -155,20 +155,33 @@ fn rest_fit(room: &[u32], tops: &[u8; 96], first: usize, count: usize) -> bool
     true
 }
 
-// One server record. Its numbers are judged together, then its three values, with 0 as a fourth.
+// One server record. Its numbers are judged together, then its values.
 fn server_fits(tops: &[u8; 96], k: Masks, v: Server) -> bool
     ensures { λ r. ⌜ r ≡ serverFits (valueBy (now (tops .entry))) k v ⌝ }
 {
     if !numbers_fit(k, v) {
         return false;
     }
-    let values = Four {
-        a: v.inp,
-        b: v.offer,
-        c: v.seeninp,
-        d: 0,
-    };
-    values_fit(tops, values)
+    own_values_fit(tops, v.inp, v.offer, v.seeninp)
+}
+
+// The values of a server record. Until the server meets a larger bal, its seeninp is its inp, which is judged already.
+fn own_values_fit(tops: &[u8; 96], inp: u32, offer: u32, seeninp: u32) -> bool
+    ensures { λ r. ⌜ r ≡ (valueBy (now (tops .entry)) inp && valueBy (now (tops .entry)) offer && valueBy (now (tops .entry)) seeninp) ⌝ }
+{
+    if (inp | offer | seeninp) == 0 {
+        return true;
+    }
+    if !is_value(tops, inp) {
+        return false;
+    }
+    if !is_value(tops, offer) {
+        return false;
+    }
+    if seeninp == inp {
+        return true;
+    }
+    is_value(tops, seeninp)
 }
 
 fn numbers_fit(k: Masks, v: Server) -> bool
