@@ -14,22 +14,22 @@ use Rattle.command.specs.Tops.{byteOf, topOf, listed, topsOf, valueBy}
 use Rattle.command.proofs.Laws.{strikes, no-command}
 
 -- the table with the first n limits stored
-unfoldable pub stored : List ℕ → ℕ → List ℕ
-stored limits zero = replicate 96 0
-stored limits (suc n) =
-    set (set (stored limits n) (32 + n) (byteOf (getD limits n 0))) (64 + n) (byteOf (getD limits n 0))
+unfoldable pub topsAfter : List ℕ → ℕ → List ℕ
+topsAfter limits zero = replicate 96 0
+topsAfter limits (suc n) =
+    set (set (topsAfter limits n) (32 + n) (byteOf (getD limits n 0))) (64 + n) (byteOf (getD limits n 0))
 
 -- one more, as a loop counts it
-pub stored-more
-    : (limits t : List ℕ) (n b : ℕ) → t ≡ stored limits n → b ≡ byteOf (getD limits n 0)
-    → set (set t (32 + n) b) (64 + n) b ≡ stored limits (n + 1)
-unfolding stored
-stored-more limits t n b e f =
-    ap₂ (λ (u : List ℕ) (x : ℕ). set (set u (32 + n) x) (64 + n) x) e f ∙ sym (ap (stored limits) (add-one n))
+pub tops-more
+    : (limits t : List ℕ) (n b : ℕ) → t ≡ topsAfter limits n → b ≡ byteOf (getD limits n 0)
+    → set (set t (32 + n) b) (64 + n) b ≡ topsAfter limits (n + 1)
+unfolding topsAfter
+tops-more limits t n b e f =
+    ap₂ (λ (u : List ℕ) (x : ℕ). set (set u (32 + n) x) (64 + n) x) e f ∙ sym (ap (topsAfter limits) (add-one n))
 
-pub stored-all : (limits : List ℕ) → stored limits 8 ≡ topsOf limits
-unfolding stored listed topOf
-stored-all limits = refl
+pub tops-all : (limits : List ℕ) → topsAfter limits 8 ≡ topsOf limits
+unfolding topsAfter listed topOf
+tops-all limits = refl
 
 listed-at : (f : ℕ → ℕ) (i n k : ℕ) → k < n → getD (listed f i n) k 0 ≡ f (i + k)
 unfolding listed

@@ -1,20 +1,20 @@
--- `command::tops_of` meets its contract: the limits passed so far are stored in the table.
+-- `command::tops_of` meets its contract: the limits passed so far stand in the table.
 use borrow.Author.Needs.{needs}
 use Prim.Native.Nat.{_≤_, _-_}
 use mathlib.Core.Path.{_≡_, refl, _∙_, ap}
 use native.Mathlib.Omega.{arith}
-use Rattle.command.proofs.TopLaws.{stored, stored-more, stored-all}
+use Rattle.command.proofs.TopLaws.{topsAfter, tops-more, tops-all}
 use Rattle.command.proofs.tops_of.Statement.{statement}
 use Rattle.command.proofs.tops_of.Tie as tie
 
 abbrev Inv-loop : tie.InvT-loop
-Inv-loop limits tops₀ i₀ tops i = (i ≤ 8) × (tops ≡ stored limits i)
+Inv-loop limits tops₀ i₀ tops i = (i ≤ 8) × (tops ≡ topsAfter limits i)
 
 abbrev μ-loop : tie.MeasureT-loop
 μ-loop limits tops₀ i₀ tops i = 8 - i
 
 loop-holds : tie.Need-loop-holds Inv-loop μ-loop
-unfolding stored
+unfolding topsAfter
 loop-holds c = (omega arith, refl)
 
 mul-byte : tie.Need-mul-byte Inv-loop μ-loop
@@ -48,14 +48,14 @@ loop-again : tie.Need-loop-again Inv-loop μ-loop
 loop-again c =
     let args = c .before .before .before .before .args in
     let loop = c .before .before .before .loop in
-    (omega arith, stored-more (args .limits .now) (loop .tops) (loop .i) (c .byte .result) (loop .inv .1) (c .byte .ensures))
+    (omega arith, tops-more (args .limits .now) (loop .tops) (loop .i) (c .byte .result) (loop .inv .1) (c .byte .ensures))
 
 returns : tie.Need-returns Inv-loop μ-loop
 returns c =
     let limits = c .before .before .args .limits .now in
     let loop = c .before .loop in
     let e : loop .i ≡ 8 = omega arith in
-    loop .inv .1 ∙ ap (stored limits) e ∙ stored-all limits
+    loop .inv .1 ∙ ap (topsAfter limits) e ∙ tops-all limits
 
 pub tops-of-spec : {M : Type 1} → statement M
 tops-of-spec =
