@@ -4,7 +4,7 @@ use Rattle.room.proofs.stepping.fail.Statement.{statement}
 use Rattle.room.proofs.stepping.fail.Tie as tie
 use native.Mathlib.Omega.{arith}
 use native.Mathlib.Numerals.{add-one}
-use Prim.Native.Nat.{ℕ, _-_, _≤_}
+use Prim.Native.Nat.{ℕ, _-_, _<_, _≤_}
 use mathlib.Core.Path.{_≡_, refl, _∙_, sym, ap, subst}
 use mathlib.Core.List.{List}
 use Rattle.state.specs.Server.{failed}
@@ -21,45 +21,44 @@ abbrev μ-loop : tie.MeasureT-loop
 
 loop-holds : tie.Need-loop-holds Inv-loop μ-loop
 unfolding failedBelow
-loop-holds c =
-    let at-pre = c .before .pre in
-    (omega arith, refl, at-pre .0)
+loop-holds c = (omega arith, refl, c .before .pre .0)
 
-cast-if1 : tie.Need-cast-if1 Inv-loop μ-loop
-cast-if1 c = search needs
+-- a turn of the loop: the record's place is in the room
+abbrev Turn : Type 0
+Turn = tie.Then1 Inv-loop μ-loop
+
+abbrev start : Turn → tie.Start Inv-loop μ-loop
+start c = c .before .before .before .before
+
+abbrev state : Turn → tie.At-loop Inv-loop μ-loop
+state c = c .before .before
+
+places
+    : (c : Turn)
+    → Row (start c .args .z) (state c .loop .room) × (state c .loop .s < start c .args .z .slots)
+    × (start c .args .p < start c .args .z .servers)
+places c = (state c .loop .inv .2, c .if1 .taken, start c .pre .1)
+
+-- the turn in which a record was stored
+abbrev turn : tie.After-store-server Inv-loop μ-loop → Turn
+turn c = c .before .before .before .before .before
 
 server-requires : tie.Need-server-requires Inv-loop μ-loop
-server-requires c κs =
-    let at-loop = c .before .before .before .loop in
-    let at-if1 = c .before .if1 in
-    let at-pre = c .before .before .before .before .before .pre in
-    (at-loop .inv .2, at-if1 .taken, at-pre .1)
-
-failed-requires : tie.Need-failed-requires Inv-loop μ-loop
-failed-requires c κs = search needs
+server-requires c κs = places (c .before)
 
 store-server-requires : tie.Need-store-server-requires Inv-loop μ-loop
-store-server-requires c κs =
-    let at-loop = c .before .before .before .before .before .before .loop in
-    let at-if1 = c .before .before .before .before .if1 in
-    let at-pre = c .before .before .before .before .before .before .before .before .pre in
-    (at-loop .inv .2, at-if1 .taken, at-pre .1)
+store-server-requires c κs = places (c .before .before .before .before)
 
 add-s : tie.Need-add-s Inv-loop μ-loop
-add-s c =
-    let at-pre = c .before .before .before .before .before .before .before .before .before .before .before .pre in
-    omega (arith, at-pre .0 .fit)
-
-loop-less : tie.Need-loop-less Inv-loop μ-loop
-loop-less c = omega arith
+add-s c = omega (arith, start (turn (c .before .before)) .pre .0 .fit)
 
 loop-again : tie.Need-loop-again Inv-loop μ-loop
 unfolding failedBelow
 loop-again c =
     let at-store-server = c .before .before .store-server in
-    let at-args = c .before .before .before .before .before .before .before .before .before .before .before .args in
-    let at-loop = c .before .before .before .before .before .before .before .before .before .loop in
     let at-failed = c .before .before .before .before .failed in
+    let at-args = start (turn (c .before .before)) .args in
+    let at-loop = state (turn (c .before .before)) .loop in
     let stored = at-store-server .ensures ∙ ap (putServer (at-args .z) (at-loop .room) (at-loop .s) (at-args .p)) (at-failed .ensures) in (
       omega arith,
       stored
@@ -88,12 +87,12 @@ fail-spec =
     Inv-loop
     μ-loop
     loop-holds
-    cast-if1
+    (λ c. search needs)
     server-requires
-    failed-requires
+    (λ c κs. search needs)
     store-server-requires
     add-s
-    loop-less
+    (λ c. omega arith)
     loop-again
     same-length
     returns)
