@@ -1,0 +1,10 @@
+-- `register_block_at` meets its contract: it answers the place that the register gives.
+use borrow.Author.Needs.{needs}
+use Rattle.register_c.proofs.register_block_at.Statement.{statement}
+use Rattle.register_c.proofs.register_block_at.Tie as tie
+
+returns : tie.Need-returns
+returns c = c .block-place .ensures .0
+
+pub register-block-at-spec : {M : Type 1} → statement M
+register-block-at-spec = tie.close (tie.spec (λ c κs. search needs) (λ c. search needs) returns)
