@@ -38,38 +38,7 @@ unfolding survivor rivals gap newRoom sameAnswer replays stepsOf ran onesIn ones
     openedCells openChecks opening opened stepChecks effectOf ruleOf judged failedBelow settled answered stepped
     applies entry cellsAfter skippedBy folded outputAt leading outputsOf entriesOf catalogueChecks catalogueOf catalogueCells
     eventsOf said commandsOf firstOutput outputBy moveOf
-computed = (
-  record {
-    servers = refl;
-    opens = refl;
-    answers = refl;
-    chosen = refl;
-    committed = refl;
-    commands = refl;
-    server0 = record { answer = refl; cells = refl };
-    server1 = record { answer = refl; cells = refl };
-  },
-  record {
-    servers = refl;
-    opens = refl;
-    answers = refl;
-    chosen = refl;
-    committed = refl;
-    commands = refl;
-    server0 = record { answer = refl; cells = refl };
-    server1 = record { answer = refl; cells = refl };
-  },
-  record {
-    servers = refl;
-    opens = refl;
-    answers = refl;
-    chosen = refl;
-    committed = refl;
-    commands = refl;
-    server0 = record { answer = refl; cells = refl };
-    server1 = record { answer = refl; cells = refl };
-  },
-)
+computed = (refl, refl, refl)
 
 -- one server commits and fails, and the other, with another offer, commits the same command
 pub survivor-holds : Worked survivor

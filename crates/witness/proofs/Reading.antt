@@ -1,22 +1,28 @@
 -- An example whose values are computed holds: what demand 3 adds to them is read off the theorem.
 use Prim.Native.Nat.{ℕ, zero, suc, _<_}
-use mathlib.Core.Path.{_≡_, refl, _∙_, sym, ap, subst}
-use mathlib.Core.Bool.{true}
+use mathlib.Core.Path.{_≡_, refl, _∙_, sym, ap, ap₂, subst}
+use mathlib.Core.Bool.{Bool, true}
 use mathlib.Core.List.{List, [], _∷_}
 use native.Mathlib.Omega.{arith}
 use lib.ListN.{getD, take, replicate}
+use lib.Dec.{eqb}
+use borrow.Author.Tests.{eqb-true, eqb-false}
+use Rattle.lemmas.proofs.Tests.{by-test}
 use Rattle.state.specs.declared.Step.{Step}
 use Rattle.layout.specs.Places.{roomLength}
 use Rattle.room.specs.Open.{openRefusal, opening}
 use Rattle.room.specs.Step.{stepped}
-use Rattle.catalogue.specs.Fold.{folded, start}
-use Rattle.catalogue.specs.Listing.{takenOf}
+use Rattle.catalogue.specs.Fold.{Entries, folded, start}
+use Rattle.catalogue.specs.Call.{catalogueOf, catalogueCells}
+use Rattle.catalogue.specs.Listing.{takenOf, skippedOf}
+use Rattle.catalogue.specs.declared.Listing.{Listing}
+use Rattle.catalogue.specs.declared.Listing.the-variants.{Counted}
 use Rattle.starred.specs.Runs.{newRoom, Line, _↝_, Own, OnDrive, Replays, replays}
 use Rattle.starred.proofs.RunLaws.{run-says}
 use Rattle.history.specs.Run.{Event, ran, history, Always}
 use Rattle.register.specs.OneHistory.{commandsOf, OneHistory}
 use Rattle.register.proofs.Theorem.{one-history}
-use Rattle.witness.specs.Example.{Example, stepsOf, historyOf, said, chosenCode, committedCode, lent, Lists, IsFirst, Worked}
+use Rattle.witness.specs.Example.{Example, stepsOf, historyOf, lastRoom, said, chosenCode, committedCode, lent, Lists, IsFirst, Worked}
 
 -- the steps with the answers that are written beside them
 unfoldable pub eventsOf : List Line → List Event
@@ -40,51 +46,95 @@ unfolding Always ran
 at-last P cells [] a = a
 at-last P cells (st ∷ sts) a = at-last P (stepped cells st) sts (a .1)
 
--- what is computed of an example with two servers
-pub record Computed (e : Example) : Type 0 where
-  pub servers : e .sizes .servers ≡ 2
-  pub opens : openRefusal (opening (e .sizes) (replicate (roomLength (e .sizes)) 9)) ≡ 0
-  pub answers : replays (newRoom (e .sizes)) (e .run) ≡ true
-  pub chosen : said chosenCode (eventsOf (e .run)) ≡ e .chosen
-  pub committed : said committedCode (eventsOf (e .run)) ≡ e .committed
-  pub commands : commandsOf (e .sizes) (eventsOf (e .run)) ≡ e .commands
-  pub server0 : Lists e 0
-  pub server1 : Lists e 1
+-- by server below n: what its catalogue answers, and the cells that it leaves
+abbrev Results : ℕ → Type 0
+Results zero = Unit {0}
+Results (suc n) = Results n × Listing × List ℕ
+
+-- as the run gives them
+abbrev resultsOf : Example → (n : ℕ) → Results n
+resultsOf e zero = tt
+resultsOf e (suc n) = (resultsOf e n, catalogueOf (lastRoom e) n lent, catalogueCells (lastRoom e) n lent)
+
+-- as the example tells them
+abbrev resultsTold : Example → (n : ℕ) → Results n
+resultsTold e zero = tt
+resultsTold e (suc n) = (resultsTold e n, Counted (getD (e .taken) n 0) (getD (e .skipped) n 0), getD (e .left) n [])
+
+listed : (e : Example) (n : ℕ) → resultsOf e n ≡ resultsTold e n → (p : ℕ) → p < n → Lists e p
+listed e zero a p h = absurd (omega arith)
+listed e (suc n) a p h =
+    by-test (eqb p n)
+    (λ t. subst (Lists e) (sym (eqb-true p n t)) (record { answer = λ i. a i .1; cells = λ i. a i .2 }))
+    (λ t. listed e n (λ i. a i .0) p (omega (arith, eqb-false p n t)))
+
+-- all that is compared of an example with n servers: what the run gives, and what the example tells
+record Values (n : ℕ) : Type 0 where
+  opens : ℕ
+  answers : Bool
+  chosen : List ℕ
+  committed : List ℕ
+  commands : List ℕ
+  catalogues : Results n
+
+abbrev valuesOf : (e : Example) → Values (e .sizes .servers)
+valuesOf e =
+    record {
+      opens = openRefusal (opening (e .sizes) (replicate (roomLength (e .sizes)) 9));
+      answers = replays (newRoom (e .sizes)) (e .run);
+      chosen = said chosenCode (eventsOf (e .run));
+      committed = said committedCode (eventsOf (e .run));
+      commands = commandsOf (e .sizes) (eventsOf (e .run));
+      catalogues = resultsOf e (e .sizes .servers);
+    }
+
+abbrev valuesTold : (e : Example) → Values (e .sizes .servers)
+valuesTold e =
+    record {
+      opens = 0;
+      answers = true;
+      chosen = e .chosen;
+      committed = e .committed;
+      commands = e .commands;
+      catalogues = resultsTold e (e .sizes .servers);
+    }
+
+abbrev pub Computed : Example → Type 0
+Computed e = valuesOf e ≡ valuesTold e
 
 module _ (e : Example) (c : Computed e) where
   answers : Replays (newRoom (e .sizes)) (e .run)
-  answers = run-says (newRoom (e .sizes)) (e .run) (c .answers)
+  answers = run-says (newRoom (e .sizes)) (e .run) (λ i. c i .answers)
 
   told : historyOf e ≡ eventsOf (e .run)
   told = as-written (newRoom (e .sizes)) (e .run) answers
 
   one : OneHistory (e .sizes) (newRoom (e .sizes)) (stepsOf (e .run))
   unfolding newRoom
-  one = one-history (e .sizes) (replicate (roomLength (e .sizes)) 9) (c .opens) (stepsOf (e .run))
+  one = one-history (e .sizes) (replicate (roomLength (e .sizes)) 9) (λ i. c i .opens) (stepsOf (e .run))
+
+  commands : commandsOf (e .sizes) (historyOf e) ≡ e .commands
+  commands = ap (commandsOf (e .sizes)) told ∙ (λ i. c i .commands)
 
   -- the theorem's first k commands, for the k that was computed
   first : (p : ℕ) → p < e .sizes .servers → Lists e p → IsFirst e p
   first p h l =
       let s = at-last _ (newRoom (e .sizes)) (stepsOf (e .run)) (one .catalogues) p h lent refl in
       let k : s .k ≡ getD (e .taken) p 0 = sym (s .taken) ∙ ap takenOf (l .answer) in
-      let list = ap (commandsOf (e .sizes)) told ∙ c .commands in
-      sym (l .cells)
-      ∙ s .cells
-      ∙ ap (λ (j : ℕ). folded start (take j (commandsOf (e .sizes) (historyOf e))) .cells) k
-      ∙ ap (λ (vs : List ℕ). folded start (take (getD (e .taken) p 0) vs) .cells) list
-
-  lists : (p : ℕ) → p < 2 → Lists e p
-  lists zero h = c .server0
-  lists (suc zero) h = c .server1
-  lists (suc (suc p)) h = absurd (omega arith)
+      let result : folded start (take (s .k) (commandsOf (e .sizes) (historyOf e))) ≡ folded start (take (getD (e .taken) p 0) (e .commands)) =
+      ap₂ (λ (j : ℕ) (vs : List ℕ). folded start (take j vs)) k commands in
+      record {
+        skipped = sym (ap skippedOf (l .answer)) ∙ s .skipped ∙ ap (λ (n : Entries). n .skipped) result;
+        cells = sym (l .cells) ∙ s .cells ∙ ap (λ (n : Entries). n .cells) result;
+      }
 
   pub holds : Worked e
   holds =
       record {
         answers = answers;
         one = one;
-        chosen = ap (said chosenCode) told ∙ c .chosen;
-        committed = ap (said committedCode) told ∙ c .committed;
-        commands = ap (commandsOf (e .sizes)) told ∙ c .commands;
-        catalogues = λ p h. let l = lists p (subst (λ (n : ℕ). p < n) (c .servers) h) in (l, first p h l);
+        chosen = ap (said chosenCode) told ∙ (λ i. c i .chosen);
+        committed = ap (said committedCode) told ∙ (λ i. c i .committed);
+        commands = commands;
+        catalogues = λ p h. let l = listed e (e .sizes .servers) (λ i. c i .catalogues) p h in (l, first p h l);
       }

@@ -25,8 +25,9 @@ pub record Example : Type 0 where
   pub committed : List ℕ
   -- the run's list of commands
   pub commands : List ℕ
-  -- by server: how many of them its catalogue takes at the end, and the cells that it leaves
+  -- by server: how many of them its catalogue takes at the end, how many of these it skips, and the cells that it leaves
   pub taken : List ℕ
+  pub skipped : List ℕ
   pub left : List (List ℕ)
 
 unfoldable pub stepsOf : List Line → List Step
@@ -59,12 +60,13 @@ lent = replicate pieces 9
 
 -- server p's catalogue at the end, as computed
 pub record Lists (e : Example) (p : ℕ) : Type 0 where
-  pub answer : catalogueOf (lastRoom e) p lent ≡ Counted (getD (e .taken) p 0) 0
+  pub answer : catalogueOf (lastRoom e) p lent ≡ Counted (getD (e .taken) p 0) (getD (e .skipped) p 0)
   pub cells : catalogueCells (lastRoom e) p lent ≡ getD (e .left) p []
 
 -- as demand 3 has it: the result of the first commands of the run
-abbrev pub IsFirst : Example → ℕ → Type 0
-IsFirst e p = getD (e .left) p [] ≡ folded start (take (getD (e .taken) p 0) (e .commands)) .cells
+pub record IsFirst (e : Example) (p : ℕ) : Type 0 where
+  pub skipped : getD (e .skipped) p 0 ≡ folded start (take (getD (e .taken) p 0) (e .commands)) .skipped
+  pub cells : getD (e .left) p [] ≡ folded start (take (getD (e .taken) p 0) (e .commands)) .cells
 
 pub record Worked (e : Example) : Type 0 where
   pub answers : Replays (newRoom (e .sizes)) (e .run)

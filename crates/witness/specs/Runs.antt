@@ -51,6 +51,7 @@ survivor =
       committed = enter5 ∷ enter5 ∷ move5 ∷ enter5 ∷ [];
       commands = enter5 ∷ move5 ∷ [];
       taken = 1 ∷ 2 ∷ [];
+      skipped = 0 ∷ 0 ∷ [];
       left = only 5 9 ∷ only 5 12 ∷ [];
     }
 
@@ -79,6 +80,7 @@ rivals =
       committed = enter7 ∷ enter7 ∷ [];
       commands = enter7 ∷ [];
       taken = 1 ∷ 1 ∷ [];
+      skipped = 0 ∷ 0 ∷ [];
       left = only 7 3 ∷ only 7 3 ∷ [];
     }
 
@@ -92,5 +94,6 @@ gap =
       committed = enter5 ∷ [];
       commands = [];
       taken = 0 ∷ 0 ∷ [];
+      skipped = 0 ∷ 0 ∷ [];
       left = replicate pieces 0 ∷ replicate pieces 0 ∷ [];
     }
