@@ -64,15 +64,15 @@ static int settle(uint8_t server, uint32_t ballot, uint8_t first)
 /* Prints the pieces that a server knows to be in a hoard. */
 static int catalogue(uint32_t server)
 {
-    uint32_t hoards[REGISTER_PIECES];
-    uint64_t answer = register_catalogue(room, cells, server, hoards, REGISTER_PIECES);
+    uint32_t out[REGISTER_PIECES];
+    uint64_t answer = register_catalogue(room, cells, server, out, REGISTER_PIECES);
     if (REGISTER_WORD(answer) == REGISTER_REFUSED)
         return refused("catalogue", REGISTER_NUMBER(answer));
     printf("catalogue of server %" PRIu32 ": taken %" PRIu32 ", skipped %" PRIu32 "\n", server,
            REGISTER_NUMBER(answer) / 256, REGISTER_NUMBER(answer) % 256);
     for (int piece = 0; piece < REGISTER_PIECES; piece++)
-        if (hoards[piece] != 0)
-            printf("  piece %d is in hoard %" PRIu32 "\n", piece, hoards[piece]);
+        if (REGISTER_ENTERED(out[piece]))
+            printf("  piece %d is in hoard %" PRIu32 "\n", piece, out[piece]);
     return 0;
 }
 

@@ -126,6 +126,11 @@ static inline const char *register_message(uint32_t refusal)
 #define REGISTER_PIECE_OF(command) ((uint32_t)(command) >> 8 & 255u)
 #define REGISTER_HOARD_OF(command) ((uint32_t)(command)&255u)
 
+/* A catalogue's cell: 0 for a piece that was not entered yet, its hoard (1 to 255) while
+ * it is entered, REGISTER_STRUCK once it was struck. A struck number is not used again. */
+#define REGISTER_STRUCK 256u
+#define REGISTER_ENTERED(cell) ((uint64_t)(cell)-1u < REGISTER_STRUCK - 1u)
+
 /* The cell of the off marks: bit d says that drive d is off. */
 #define REGISTER_OFF_MARKS 3u
 
@@ -169,8 +174,8 @@ uint32_t register_open(uint32_t *row, size_t cells, uint32_t servers, uint32_t d
 uint64_t register_step(uint32_t *room, size_t cells, const uint8_t *bytes, size_t length);
 
 /* Writes what one server knows to `out`, of which there are `length` cells, which must
- * be 64: each piece's hoard, 0 for a piece that is in none. The answer is
- * taken * 256 + skipped, or refused with 2, 3 or 4. */
+ * be 64: each piece's hoard, 0 for a piece that has none, REGISTER_STRUCK for one that
+ * was struck. The answer is taken * 256 + skipped, or refused with 2, 3 or 4. */
 uint64_t register_catalogue(const uint32_t *room, size_t cells, uint32_t server, uint32_t *out, size_t length);
 
 /* Judges the record at `bytes`. The answer is the length of the record, or refused

@@ -159,7 +159,7 @@ static void steps(void)
 /* Rows and lengths that are wrong. */
 static void rows(void)
 {
-    uint32_t row[31], before[31], hoards[65], old[65];
+    uint32_t row[31], before[31], out[65], old[65];
     memset(row, 7, sizeof row);
     memcpy(before, row, sizeof row);
     CHECK(register_open(row, 30, 0, 1, 1) == REGISTER_E_SIZES && register_open(row, 30, 2, 8, 1) == REGISTER_E_SIZES);
@@ -170,13 +170,48 @@ static void rows(void)
         CHECK(REGISTER_WORD(answer) == REGISTER_REFUSED && REGISTER_NUMBER(answer) == REGISTER_E_CELLS);
     }
     CHECK(memcmp(before, row, sizeof row) == 0);
-    memset(hoards, 9, sizeof hoards);
-    memcpy(old, hoards, sizeof hoards);
-    CHECK(REGISTER_NUMBER(register_catalogue(room, 30, 0, hoards, 65)) == REGISTER_E_LENGTH);
-    CHECK(REGISTER_NUMBER(register_catalogue(row, 30, 0, hoards, 64)) == REGISTER_E_CELLS);
-    CHECK(REGISTER_NUMBER(register_catalogue(room, 30, 2, hoards, 64)) == REGISTER_E_BEYOND);
-    CHECK(memcmp(hoards, old, sizeof hoards) == 0);
-    CHECK(register_catalogue(room, 30, 0, hoards, REGISTER_PIECES) == 0 && hoards[0] == 0 && hoards[64] == old[64]);
+    memset(out, 9, sizeof out);
+    memcpy(old, out, sizeof out);
+    CHECK(REGISTER_NUMBER(register_catalogue(room, 30, 0, out, 65)) == REGISTER_E_LENGTH);
+    CHECK(REGISTER_NUMBER(register_catalogue(row, 30, 0, out, 64)) == REGISTER_E_CELLS);
+    CHECK(REGISTER_NUMBER(register_catalogue(room, 30, 2, out, 64)) == REGISTER_E_BEYOND);
+    CHECK(memcmp(out, old, sizeof out) == 0);
+    CHECK(register_catalogue(room, 30, 0, out, REGISTER_PIECES) == 0 && out[0] == 0 && out[64] == old[64]);
+}
+
+/* One server and one drive settle a command in a slot of a row. */
+static void settle(uint32_t *row, size_t cells, uint8_t slot, uint32_t command)
+{
+    static const uint32_t kinds[] = {REGISTER_OFFER,  REGISTER_RECALL, REGISTER_REJOIN, REGISTER_WRITE,
+                                     REGISTER_FINISH, REGISTER_WRITE,  REGISTER_FINISH};
+    uint64_t answer = 0;
+    for (size_t i = 0; i < sizeof kinds / sizeof kinds[0]; i++) {
+        uint8_t record[REGISTER_LONGEST_RECORD];
+        uint32_t number = kinds[i] == REGISTER_OFFER ? command : 1;
+        uint64_t used = register_write((uint8_t)kinds[i], 0, slot, 0, 0, number, record, sizeof record);
+        answer = register_step(row, cells, record, REGISTER_NUMBER(used));
+    }
+    CHECK(REGISTER_WORD(answer) == REGISTER_COMMITTED && REGISTER_NUMBER(answer) == command);
+}
+
+/* A strike; then an enter, a move and a strike of the same number. */
+static void struck(void)
+{
+    uint32_t row[69], out[REGISTER_PIECES];
+    for (uint32_t cell = 0; cell <= 512; cell++)
+        CHECK(REGISTER_ENTERED(cell) == (cell >= 1 && cell <= 255));
+    CHECK(REGISTER_STRUCK == 256 && !REGISTER_ENTERED(UINT32_MAX) && !REGISTER_ENTERED(-1));
+    CHECK(register_open(row, 69, 1, 1, 5) == 0);
+    settle(row, 69, 0, REGISTER_ENTER(5, 9));
+    CHECK(register_catalogue(row, 69, 0, out, REGISTER_PIECES) == 1 * 256 && out[5] == 9);
+    settle(row, 69, 1, REGISTER_STRIKE(5));
+    CHECK(register_catalogue(row, 69, 0, out, REGISTER_PIECES) == 2 * 256 && out[5] == REGISTER_STRUCK);
+    settle(row, 69, 2, REGISTER_ENTER(5, 9));
+    settle(row, 69, 3, REGISTER_MOVE(5, 12));
+    settle(row, 69, 4, REGISTER_STRIKE(5));
+    CHECK(register_catalogue(row, 69, 0, out, REGISTER_PIECES) == 5 * 256 + 3);
+    for (uint32_t piece = 0; piece < REGISTER_PIECES; piece++)
+        CHECK(out[piece] == (piece == 5 ? REGISTER_STRUCK : 0));
 }
 
 /* The fields that each kind has: 1 server, 2 slot, 4 drive, 8 other, 16 number. */
@@ -226,6 +261,7 @@ int main(void)
     sizes();
     steps();
     rows();
+    struck();
     records();
     printf("%d failed\n", failures);
     return failures != 0;

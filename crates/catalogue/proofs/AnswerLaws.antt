@@ -1,7 +1,7 @@
--- What an answer says: the counts and the cells of an accepted call, and that a refusal gives the lowest number that
--- applies and leaves every cell.
+-- What an answer says: the counts and the cells of an accepted call, how many and how large these are, and that a refusal
+-- gives the lowest number that applies and leaves every cell.
 use Prim.Native.Nat.{ℕ, _≤_, _<_}
-use mathlib.Core.Path.{_≡_, refl, sym, subst}
+use mathlib.Core.Path.{_≡_, refl, _∙_, sym, ap, subst}
 use mathlib.Core.Bool.{true}
 use mathlib.Core.List.{List, [], _∷_, List·Memᴰ}
 use native.Mathlib.Omega.{arith}
@@ -14,28 +14,29 @@ use Rattle.checks.proofs.LowestLaws.{first-applies, lowest-first}
 use Rattle.state.specs.declared.Sizes.{Sizes}
 use Rattle.layout.specs.Cells.{sizesOf}
 use Rattle.range.specs.Range.{inRange}
+use Rattle.catalogue.specs.Entry.{struck}
 use Rattle.catalogue.specs.Fold.{pieces, start}
 use Rattle.catalogue.specs.Outputs.{outputsOf}
 use Rattle.catalogue.specs.Listing.{catalogueRefusal, takenOf, skippedOf}
 use Rattle.catalogue.specs.Call.{entriesOf, catalogueChecks, catalogueOf, leftBy, catalogueCells}
 use Rattle.catalogue.specs.declared.Listing.{Listing}
 use Rattle.catalogue.specs.declared.Listing.the-variants.{Counted, Refused}
-use Rattle.catalogue.proofs.FoldLaws.{fold-length, fold-skips, fold-small, start-small}
+use Rattle.catalogue.proofs.FoldLaws.{fold-length, fold-skips, fold-bounded, start-bounded}
 use Rattle.catalogue.proofs.OutputLaws.{outputs-first}
 use Rattle.catalogue.proofs.CallLaws.{wrong-length, out-of-range, no-server, accepts}
 
 -- the entries of any server
 module _ (z : Sizes) (room : List ℕ) (p : ℕ) where
-  pub entries-length : length (entriesOf z room p .cells) ≡ pieces
+  entries-length : length (entriesOf z room p .cells) ≡ pieces
   unfolding entriesOf
   entries-length = fold-length start (outputsOf z room p)
 
-  pub entries-small : (i : ℕ) → getD (entriesOf z room p .cells) i 0 ≤ 255
+  entries-bounded : (i : ℕ) → getD (entriesOf z room p .cells) i 0 ≤ struck
   unfolding entriesOf
-  entries-small = fold-small start (outputsOf z room p) start-small
+  entries-bounded i = fold-bounded start (outputsOf z room p) i (start-bounded i)
 
   -- no more are skipped than taken
-  pub entries-skipped : entriesOf z room p .skipped ≤ length (outputsOf z room p)
+  entries-skipped : entriesOf z room p .skipped ≤ length (outputsOf z room p)
   unfolding entriesOf
   entries-skipped = omega (arith, fold-skips start (outputsOf z room p))
 
@@ -100,6 +101,16 @@ module _ (room : List ℕ) (server : ℕ) (out : List ℕ) where
       : catalogueRefusal (catalogueOf room server out) ≡ 0
       → Accepted (takenOf (catalogueOf room server out)) (skippedOf (catalogueOf room server out))
   accepted-says e = subst Says (accepted-is e) says
+
+  -- an accepted catalogue leaves as many cells as there are pieces
+  pub catalogue-length : catalogueRefusal (catalogueOf room server out) ≡ 0 → length (catalogueCells room server out) ≡ pieces
+  catalogue-length e = ap length (accepted-says e .cells) ∙ entries-length (sizesOf room) room server
+
+  -- and none is above struck
+  pub catalogue-bounded
+      : catalogueRefusal (catalogueOf room server out) ≡ 0 → (i : ℕ) → getD (catalogueCells room server out) i 0 ≤ struck
+  catalogue-bounded e i =
+      subst (λ (cells : List ℕ). getD cells i 0 ≤ struck) (sym (accepted-says e .cells)) (entries-bounded (sizesOf room) room server i)
 
   -- the numbers of the checks, in their order
   pub catalogue-numbers : numbersOf (refusalsOf (catalogueChecks room server out)) ≡ 2 ∷ 3 ∷ 4 ∷ []

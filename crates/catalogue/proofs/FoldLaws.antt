@@ -7,7 +7,7 @@ use native.Mathlib.Omega.{arith}
 use lib.ListN.{length, getD, set, length-set, replicate}
 use lib.Dec.{eqb}
 use Rattle.command.specs.Command.{kindOf, pieceOf, hoardOf, strike}
-use Rattle.catalogue.specs.Entry.{skips, changed, entry}
+use Rattle.catalogue.specs.Entry.{struck, skips, changed, entry}
 use Rattle.catalogue.specs.Fold.{pieces, Entries, cellOf, cellsAfter, skippedBy, applied, folded, start}
 
 -- what is picked from two bounded numbers is bounded
@@ -41,35 +41,43 @@ unfolding folded
 fold-skips e [] = omega arith
 fold-skips e (v ∷ vs) = omega (arith, fold-skips (applied e v) vs, skipped-small (e .cells) v)
 
-set-small
-    : (l : List ℕ) (i a m : ℕ) → a ≤ m → ((j : ℕ) → getD l j 0 ≤ m) → (j : ℕ) → getD (set l i a) j 0 ≤ m
-set-small [] i a m h k j = k j
-set-small (x ∷ l) zero a m h k zero = h
-set-small (x ∷ l) zero a m h k (suc j) = k (suc j)
-set-small (x ∷ l) (suc i) a m h k zero = k 0
-set-small (x ∷ l) (suc i) a m h k (suc j) = set-small l i a m h (λ n. k (suc n)) j
-
--- a cell is as it was, 0 or a hoard
-entry-small : (kind hoard cell m : ℕ) → hoard ≤ m → cell ≤ m → entry kind hoard cell ≤ m
+-- a cell is as it was, struck or a hoard
+entry-bounded : (kind hoard cell : ℕ) → hoard ≤ struck → cell ≤ struck → entry kind hoard cell ≤ struck
 unfolding entry
-entry-small kind hoard cell m h k =
-    pick-small (skips kind cell) cell (changed kind hoard) m k
-    (pick-small (eqb kind strike) 0 hoard m (omega arith) h)
+entry-bounded kind hoard cell h k =
+    pick-small (skips kind cell) cell (changed kind hoard) struck k
+    (pick-small (eqb kind strike) struck hoard struck (omega arith) h)
 
--- every cell stays at most 255, whatever the commands
-pub fold-small
-    : (e : Entries) (vs : List ℕ) → ((i : ℕ) → getD (e .cells) i 0 ≤ 255) → (i : ℕ) → getD (folded e vs .cells) i 0 ≤ 255
+-- what holds of a cell holds after a change of one cell that keeps it
+set-keeps : (P : ℕ → Type 0) (l : List ℕ) (i a j : ℕ) → (P (getD l i 0) → P a) → P (getD l j 0) → P (getD (set l i a) j 0)
+set-keeps P [] i a j f k = k
+set-keeps P (x ∷ l) zero a zero f k = f k
+set-keeps P (x ∷ l) zero a (suc j) f k = k
+set-keeps P (x ∷ l) (suc i) a zero f k = k
+set-keeps P (x ∷ l) (suc i) a (suc j) f k = set-keeps P l i a j f k
+
+-- what every command keeps of a cell, a list of commands keeps of each cell
+pub fold-keeps
+    : (P : ℕ → Type 0) → ((v cell : ℕ) → P cell → P (entry (kindOf v) (hoardOf v) cell))
+    → (e : Entries) (vs : List ℕ) (i : ℕ) → P (getD (e .cells) i 0) → P (getD (folded e vs .cells) i 0)
 unfolding folded cellsAfter
-fold-small e [] h i = h i
-fold-small e (v ∷ vs) h i =
-    fold-small (applied e v) vs
-    (set-small (e .cells) (pieceOf v) (entry (kindOf v) (hoardOf v) (cellOf (e .cells) v)) 255
-    (entry-small (kindOf v) (hoardOf v) (cellOf (e .cells) v) 255 (omega arith) (h (pieceOf v))) h) i
+fold-keeps P f e [] i h = h
+fold-keeps P f e (v ∷ vs) i h =
+    let cell = cellOf (e .cells) v in
+    fold-keeps P f (applied e v) vs i
+    (set-keeps P (e .cells) (pieceOf v) (entry (kindOf v) (hoardOf v) cell) i (f v cell) h)
+
+-- every cell stays at most struck, whatever the commands
+pub fold-bounded
+    : (e : Entries) (vs : List ℕ) (i : ℕ) → getD (e .cells) i 0 ≤ struck → getD (folded e vs .cells) i 0 ≤ struck
+fold-bounded =
+    fold-keeps (λ (cell : ℕ). cell ≤ struck)
+    (λ v cell h. entry-bounded (kindOf v) (hoardOf v) cell (omega arith) h)
 
 zero-at : (n i : ℕ) → _≡_ {A = ℕ} (getD (replicate n 0) i 0) 0
 zero-at zero i = refl
 zero-at (suc n) zero = refl
 zero-at (suc n) (suc i) = zero-at n i
 
-pub start-small : (i : ℕ) → getD (start .cells) i 0 ≤ 255
-start-small i = omega (arith, zero-at pieces i)
+pub start-bounded : (i : ℕ) → getD (start .cells) i 0 ≤ struck
+start-bounded i = omega (arith, zero-at pieces i)

@@ -3,7 +3,7 @@ ghost use mathlib.Core.Path.{_≡_};
 ghost use Prim.Native.Nat.{_<_};
 ghost use lib.ListN.{length, replicate};
 ghost use Rattle.command.specs.Command.{pieceOf};
-ghost use Rattle.catalogue.specs.Entry.{applies, changed};
+ghost use Rattle.catalogue.specs.Entry.{entered, applies, changed};
 ghost use Rattle.catalogue.specs.Fold.{pieces, cellsAfter, skippedBy};
 ghost use Rattle.catalogue.specs.Listing.{catalogueRefusal, takenOf, skippedOf};
 ghost use Rattle.catalogue.specs.Call.{Listable, entriesOf, counted, catalogueOf, catalogueCells};
@@ -11,6 +11,10 @@ use state::Sizes;
 
 // One cell for each piece.
 pub const PIECES: usize = 64;
+
+// The cell of a piece that was struck: above every hoard.
+pub const STRUCK: u32 = 256;
+
 // The kinds of command.
 const ENTER: u32 = 1;
 
@@ -57,8 +61,9 @@ impl Listing {
     }
 }
 
-// Writes each piece's hoard, 0 if it has none, as the outputs of one server give it. Refused with 2 where out is not 64
-// cells, 3 where the row is no room in range, and 4 where the server is beyond the room; then no cell changes.
+// Writes each piece's hoard, 0 if it has none, STRUCK if it was struck, as the outputs of one server give it. Refused with
+// 2 where out is not 64 cells, 3 where the row is no room in range, and 4 where the server is beyond the room; then no
+// cell changes.
 pub fn catalogue(room: &[u32], server: u32, out: &mut [u32]) -> Listing
     ensures { λ r. ⌜ (r ≡ catalogueOf (now (room .entry)) server (now (out .entry)))
         × (now (out .exit) ≡ catalogueCells (now (room .entry)) server (now (out .entry))) ⌝ }
@@ -75,6 +80,13 @@ pub fn catalogue(room: &[u32], server: u32, out: &mut [u32]) -> Listing
     }
     layout::clear(out);
     list(room, z, server as u8, out)
+}
+
+// Whether a catalogue's cell is a hoard.
+pub fn entered(cell: u32) -> bool
+    ensures { λ r. ⌜ r ≡ entered cell ⌝ }
+{
+    (0 < cell) & (cell < STRUCK)
 }
 
 // Takes the outputs from slot 0 up to the first slot without one.
@@ -105,7 +117,8 @@ fn apply(out: &mut [u32], command: u32) -> u32
 {
     let at = command::piece(command) as usize;
     let kind = command::kind(command);
-    if !applies(kind, out[at]) {
+    let cell = out[at];
+    if !applies(kind, cell) {
         return 1;
     }
     out[at] = changed(kind, command::hoard(command));
@@ -116,12 +129,12 @@ fn apply(out: &mut [u32], command: u32) -> u32
 fn applies(kind: u32, cell: u32) -> bool
     ensures { λ r. ⌜ r ≡ applies kind cell ⌝ }
 {
-    ((kind == ENTER) & (cell == 0)) | (((kind == MOVE) | (kind == STRIKE)) & (cell != 0))
+    ((kind == ENTER) & (cell == 0)) | (((kind == MOVE) | (kind == STRIKE)) & entered(cell))
 }
 
 // What the cell becomes where the command is not skipped.
 fn changed(kind: u32, hoard: u32) -> u32
     ensures { λ r. ⌜ r ≡ changed kind hoard ⌝ }
 {
-    if kind == STRIKE { 0 } else { hoard }
+    if kind == STRIKE { STRUCK } else { hoard }
 }

@@ -1,2 +1,3 @@
--- Demand 3, proved.
+-- Demand 3, proved; and what it says of numbers that were struck.
 pub mod Theorem
+pub mod Struck

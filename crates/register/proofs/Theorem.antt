@@ -60,7 +60,7 @@ module _ (z : Sizes) (first : ℕ → ℕ) (room : List ℕ) (s : Shown z first 
       }
 
 -- what holds at every moment may be weakened at every moment
-always-map : (P Q : List ℕ → Type 0) → ((room : List ℕ) → P room → Q room) → (cells : List ℕ) (steps : List Step) → Always P cells steps → Always Q cells steps
+pub always-map : (P Q : List ℕ → Type 0) → ((room : List ℕ) → P room → Q room) → (cells : List ℕ) (steps : List Step) → Always P cells steps → Always Q cells steps
 unfolding Always
 always-map P Q f cells [] a = f cells a
 always-map P Q f cells (st ∷ sts) a = (f cells (a .0), always-map P Q f (stepped cells st) sts (a .1))

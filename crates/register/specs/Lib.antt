@@ -1,2 +1,3 @@
--- What is promised of whole runs.
+-- What is promised of whole runs: one history, and that a struck number is never used again.
 pub mod OneHistory
+pub mod NeverAgain

@@ -23,12 +23,12 @@ use Rattle.starred.specs.Runs.{newRoom, sameAnswer, replays}
 use Rattle.history.specs.Run.{ran, moveOf, outputBy, firstOutput}
 use Rattle.register.specs.OneHistory.{commandsOf}
 use Rattle.witness.specs.Example.{stepsOf, said, Worked}
-use Rattle.witness.specs.Runs.{survivor, rivals, gap}
+use Rattle.witness.specs.Runs.{survivor, rivals, gap, strikes, reuses}
 use Rattle.witness.proofs.Reading.{eventsOf, Computed, holds}
 
 -- the line names all that the definitions of open, step and catalogue are made of
-computed : Computed survivor × Computed rivals × Computed gap
-unfolding survivor rivals gap newRoom sameAnswer replays stepsOf ran onesIn ones
+computed : Computed survivor × Computed rivals × Computed gap × Computed strikes × Computed reuses
+unfolding survivor rivals gap strikes reuses newRoom sameAnswer replays stepsOf ran onesIn ones
     limitOf hoardFits isCommand owned leastAbove nextOwn stands marked allBelow size gathered majority within
     placesFit commandFits
     meeting marking topping recalling rejoining bidding writing reading proposing committing
@@ -38,7 +38,7 @@ unfolding survivor rivals gap newRoom sameAnswer replays stepsOf ran onesIn ones
     openedCells openChecks opening opened stepChecks effectOf ruleOf judged failedBelow settled answered stepped
     applies entry cellsAfter skippedBy folded outputAt leading outputsOf entriesOf catalogueChecks catalogueOf catalogueCells
     eventsOf said commandsOf firstOutput outputBy moveOf
-computed = (refl, refl, refl)
+computed = (refl, refl, refl, refl, refl)
 
 -- one server commits and fails, and the other, with another offer, commits the same command
 pub survivor-holds : Worked survivor
@@ -51,3 +51,11 @@ rivals-hold = holds rivals (computed .1)
 -- a commit beyond an empty slot is in no list and in no catalogue
 pub gap-holds : Worked gap
 gap-holds = holds gap (computed .2)
+
+-- a strike of an entered piece is not skipped
+pub strikes-holds : Worked strikes
+strikes-holds = holds strikes (computed .3)
+
+-- an enter, a move and a strike of its number after that are skipped
+pub reuses-holds : Worked reuses
+reuses-holds = holds reuses (computed .4)

@@ -1,15 +1,17 @@
--- Three runs of two servers: a command that survives its server, two rivals, and a slot beyond an empty one.
+-- Three runs of two servers: a command that survives its server, two rivals, and a slot beyond an empty one. Two of one
+-- server: a strike, and a struck number that is used again in vain.
 use Prim.Native.Nat.{ℕ}
 use mathlib.Core.List.{List, [], _∷_, _++_}
 use lib.ListN.{set, replicate}
 use Rattle.state.specs.declared.Answer.the-variants.{Done, Outbid, Chosen, Committed}
 use Rattle.state.specs.declared.Step.the-variants.{Offer, Recall, Rejoin, Write, Read, Finish, Fail}
+use Rattle.catalogue.specs.Entry.{struck}
 use Rattle.catalogue.specs.Fold.{pieces}
 use Rattle.state.specs.Sizes.{sizes}
 use Rattle.starred.specs.Runs.{Line, _↝_}
 use Rattle.witness.specs.Example.{Example}
 
--- enter piece 5 in hoard 9; enter piece 7 in hoard 3; move piece 5 to hoard 12
+-- enter piece 5 in hoard 9; enter piece 7 in hoard 3; move piece 5 to hoard 12; strike piece 5
 abbrev pub enter5 : ℕ
 enter5 = 66825
 
@@ -19,9 +21,12 @@ enter7 = 67331
 abbrev pub move5 : ℕ
 move5 = 132364
 
+abbrev pub strike5 : ℕ
+strike5 = 197888
+
 -- the cells of a catalogue with one piece
 abbrev pub only : ℕ → ℕ → List ℕ
-only piece hoard = set (replicate pieces 0) piece hoard
+only piece cell = set (replicate pieces 0) piece cell
 
 -- in a room of one drive server p goes from phase 0 to 3 in slot s, undisturbed by q, and commits v
 abbrev pub settles : ℕ → ℕ → ℕ → ℕ → ℕ → List Line
@@ -96,4 +101,44 @@ gap =
       taken = 0 ∷ 0 ∷ [];
       skipped = 0 ∷ 0 ∷ [];
       left = replicate pieces 0 ∷ replicate pieces 0 ∷ [];
+    }
+
+-- in a room of one server and one drive the server offers v in slot s and commits it
+abbrev pub alone : ℕ → ℕ → List Line
+alone s v =
+    Offer 0 s v ↝ Done
+    ∷ Recall 0 s 0 ↝ Done
+    ∷ Rejoin 0 s 1 ↝ Done
+    ∷ Write 0 s 0 ↝ Done
+    ∷ Finish 0 s ↝ Chosen v
+    ∷ Write 0 s 0 ↝ Done
+    ∷ Finish 0 s ↝ Committed v
+    ∷ []
+
+-- A piece is entered and struck.
+unfoldable pub strikes : Example
+strikes =
+    record {
+      sizes = sizes 1 1 2;
+      run = alone 0 enter5 ++ alone 1 strike5;
+      chosen = enter5 ∷ strike5 ∷ [];
+      committed = enter5 ∷ strike5 ∷ [];
+      commands = enter5 ∷ strike5 ∷ [];
+      taken = 2 ∷ [];
+      skipped = 0 ∷ [];
+      left = only 5 struck ∷ [];
+    }
+
+-- Then its number is entered, moved and struck once more: the three are skipped, and it stays struck.
+unfoldable pub reuses : Example
+reuses =
+    record {
+      sizes = sizes 1 1 5;
+      run = alone 0 enter5 ++ alone 1 strike5 ++ alone 2 enter5 ++ alone 3 move5 ++ alone 4 strike5;
+      chosen = enter5 ∷ strike5 ∷ enter5 ∷ move5 ∷ strike5 ∷ [];
+      committed = enter5 ∷ strike5 ∷ enter5 ∷ move5 ∷ strike5 ∷ [];
+      commands = enter5 ∷ strike5 ∷ enter5 ∷ move5 ∷ strike5 ∷ [];
+      taken = 5 ∷ [];
+      skipped = 3 ∷ [];
+      left = only 5 struck ∷ [];
     }

@@ -73,24 +73,24 @@ fn other_step(room: &mut [u32], record: &[u8]) -> other::Answer {
 /// The catalogue of server 0.
 pub fn catalogue(room: Vec<u32>) -> Times {
     let mine = Room::over(room.clone());
-    let (mut hoards, mut their_hoards) = ([0; 64], [0; 64]);
+    let (mut cells, mut their_cells) = ([0; 64], [0; 64]);
     let times = side_by_side(
         ROUNDS,
         CALLS,
         || {
             for _ in 0..CALLS {
-                black_box(black_box(&mine).catalogue_in(0, &mut hoards))
+                black_box(black_box(&mine).catalogue_in(0, &mut cells))
                     .expect("the room is in range");
             }
         },
         || {
             for _ in 0..CALLS {
-                black_box(other::catalogue(black_box(&room), 0, &mut their_hoards))
+                black_box(other::catalogue(black_box(&room), 0, &mut their_cells))
                     .expect("the room is in range");
             }
         },
     );
-    assert_eq!(hoards, their_hoards, "the catalogues differ");
+    assert_eq!(cells, their_cells, "the catalogues differ");
     times
 }
 

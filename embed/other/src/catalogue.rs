@@ -8,7 +8,11 @@ use crate::server::Server;
 /// The number of pieces, and of the cells that a catalogue fills.
 pub const PIECES: usize = 64;
 
-/// Fills `out` with the hoard of each piece, as server `server` knows it.
+/// The cell of a piece that was struck. Every hoard is below it.
+pub const STRUCK: u32 = 256;
+
+/// Fills `out` with the hoard of each piece, as server `server` knows it: 0
+/// where the piece has none, [`STRUCK`] where it was struck.
 /// Answers how many commands were taken and how many of these were skipped.
 pub fn catalogue(room: &[u32], server: u32, out: &mut [u32]) -> Result<(u32, u32), u32> {
     if out.len() != PIECES {
@@ -36,11 +40,11 @@ pub fn catalogue(room: &[u32], server: u32, out: &mut [u32]) -> Result<(u32, u32
 /// Does one command to its cell. False where the command is skipped.
 fn apply(out: &mut [u32], command: u32) -> bool {
     let cell = &mut out[piece(command) as usize];
-    let entered = *cell != 0;
+    let entered = (1..STRUCK).contains(cell);
     match kind(command) {
-        Some(Kind::Enter) if !entered => *cell = hoard(command),
+        Some(Kind::Enter) if *cell == 0 => *cell = hoard(command),
         Some(Kind::Move) if entered => *cell = hoard(command),
-        Some(Kind::Strike) if entered => *cell = 0,
+        Some(Kind::Strike) if entered => *cell = STRUCK,
         _ => return false,
     }
     true

@@ -10,7 +10,7 @@ pub enum Kind {
     Enter,
     /// The piece goes to another hoard.
     Move,
-    /// The piece leaves the catalogue.
+    /// The piece leaves its hoard, and its number is not used again.
     Strike,
 }
 

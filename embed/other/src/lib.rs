@@ -1,5 +1,6 @@
-//! This is a second implementation of 01, written from 01 and not from the
-//! Rattle code, used to check and to time the register.
+//! This is a second implementation of 01, with the requests of 02 that have
+//! landed. It was written from these papers and not from the Rattle code, and
+//! is used to check and to time the register.
 //!
 //! The calls are [`open`], [`step`], [`catalogue`], [`read_record`] and
 //! [`write_record`]. [`rehearse`] gives the bytes that the program rehearse
@@ -20,7 +21,7 @@ mod server;
 mod steps;
 
 pub use ballots::{least_own_above, owner, BALLOT_LIMIT};
-pub use catalogue::{catalogue, PIECES};
+pub use catalogue::{catalogue, PIECES, STRUCK};
 pub use commands::{is_command, Kind};
 pub use records::{read_record, write_record, LONGEST_RECORD};
 pub use rehearse::{rehearse, INPUT_LIMIT};

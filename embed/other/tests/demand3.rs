@@ -5,7 +5,7 @@
 use std::collections::BTreeSet;
 
 use other::generator::{Chance, Driver, Habits};
-use other::{catalogue, judge, open, room_length, step, Answer, Server, Sizes, Step};
+use other::{catalogue, judge, open, room_length, step, Answer, Server, Sizes, Step, STRUCK};
 
 /// The one-value machine of a slot.
 #[derive(Default)]
@@ -49,6 +49,8 @@ struct Seen {
     outbid: u32,
     failed: u32,
     refused: u32,
+    /// Catalogues with a piece that was struck.
+    struck: u32,
     longest_list: usize,
 }
 
@@ -112,6 +114,7 @@ impl Check {
             assert!(taken <= list.len());
             let (cells, skipped) = fold(&list[..taken]);
             assert_eq!((out, counts.1), (cells, skipped));
+            self.seen.struck += u32::from(cells.contains(&STRUCK));
         }
     }
 }
@@ -123,9 +126,9 @@ fn fold(commands: &[u32]) -> ([u32; 64], u32) {
     for command in commands {
         let (kind, piece, hoard) = (command / 65_536, command / 256 % 256, command % 256);
         let cell = &mut cells[piece as usize];
-        match (kind, *cell == 0) {
-            (1, true) | (2, false) => *cell = hoard,
-            (3, false) => *cell = 0,
+        match (kind, *cell) {
+            (1, 0) | (2, 1..=255) => *cell = hoard,
+            (3, 1..=255) => *cell = STRUCK,
             _ => skipped += 1,
         }
     }
@@ -183,6 +186,7 @@ fn simulate(seed: u64, noise: Option<u32>, runs: u32, count: u32) -> Seen {
             sum.outbid += seen.outbid;
             sum.failed += seen.failed;
             sum.refused += seen.refused;
+            sum.struck += seen.struck;
             sum.longest_list = sum.longest_list.max(seen.longest_list);
         }
     }
@@ -196,6 +200,7 @@ fn servers_that_follow_the_protocol_agree() {
     assert!(seen.steps == 300_000 && seen.longest_list == 4);
     assert!(seen.committed > 5_000 && seen.again > 2_000);
     assert!(seen.outbid > 2_000 && seen.failed > 1_000 && seen.refused > 10_000);
+    assert!(seen.struck > 1_000);
 }
 
 #[test]

@@ -1,8 +1,8 @@
-//! The values that 01 works out, and the odd records.
+//! The values that 01 works out, and the examples of 02.
 
 use other::{
     catalogue, is_command, is_majority, least_own_above, open, owner, room_length, step, Answer,
-    Block, Server, Sizes, Step,
+    Block, Server, Sizes, Step, STRUCK,
 };
 
 /// A new room.
@@ -34,6 +34,15 @@ fn server(room: &[u32], slot: usize, server: usize) -> Server {
 fn put_block(room: &mut [u32], drive: usize, server: usize, block: [u32; 3]) {
     let at = other::judge(room).expect("a room in range").block_at(0, drive, server);
     room[at..at + 3].copy_from_slice(&block);
+}
+
+/// Puts commands into the slots of a room of one server and one drive, as its outputs.
+fn put_outputs(room: &mut [u32], commands: &[u32]) {
+    for (slot, &command) in commands.iter().enumerate() {
+        let at = 4 + 13 * slot;
+        room[at] = 3;
+        room[at + 3] = command;
+    }
 }
 
 #[test]
@@ -219,20 +228,42 @@ fn catalogue_skips_what_does_not_apply() {
     let (enter, to, strike) = (65_536 + 9, 131_072 + 5, 196_608);
     let commands = [to, strike, enter, enter + 1, to, strike, strike, enter];
     let mut room = opened(1, 1, 9);
-    for (slot, command) in commands.into_iter().enumerate() {
-        let at = 4 + 13 * slot;
-        room[at] = 3;
-        room[at + 3] = command;
-    }
+    put_outputs(&mut room, &commands);
     let mut out = [7; 64];
-    assert_eq!(catalogue(&room, 0, &mut out), Ok((8, 4)));
-    assert_eq!(out[0], 9);
+    assert_eq!(catalogue(&room, 0, &mut out), Ok((8, 5)));
+    assert_eq!(out[0], STRUCK);
     assert!(out[1..].iter().all(|&cell| cell == 0));
     assert_eq!(catalogue(&room, 1, &mut out), Err(4));
     assert_eq!(catalogue(&room[1..], 1, &mut out), Err(3));
     assert_eq!(catalogue(&room[1..], 1, &mut out[1..]), Err(2));
-    assert_eq!(out[0], 9);
+    assert_eq!(out[0], STRUCK);
     // A slot in phase 2 ends the outputs.
     room[4 + 13 * 3] = 2;
     assert_eq!(catalogue(&room, 0, &mut out), Ok((3, 2)));
+    assert_eq!(out[0], 9);
+}
+
+/// A strike; then an enter, a move and a strike of the same number.
+#[test]
+fn a_struck_number_stays_struck() {
+    assert_eq!(STRUCK, 256);
+    let (enter, to, strike) = (66_825, 132_364, 197_888);
+    let commands = [enter, strike, enter, to, strike, enter + 256];
+    // The counts and the cells of pieces 5 and 6 after the first commands.
+    let expected = [
+        (1, 0, 9, 0),
+        (2, 0, STRUCK, 0),
+        (3, 1, STRUCK, 0),
+        (4, 2, STRUCK, 0),
+        (5, 3, STRUCK, 0),
+        (6, 3, STRUCK, 9),
+    ];
+    for (taken, skipped, piece_5, piece_6) in expected {
+        let mut room = opened(1, 1, 7);
+        put_outputs(&mut room, &commands[..taken as usize]);
+        let (mut out, mut left) = ([7; 64], [0; 64]);
+        (left[5], left[6]) = (piece_5, piece_6);
+        assert_eq!(catalogue(&room, 0, &mut out), Ok((taken, skipped)));
+        assert_eq!(out, left);
+    }
 }

@@ -7,7 +7,7 @@
 //! be lent; a call that is refused with an [`Error`] changes nothing.
 //!
 //! ```
-//! use register::{Answer, Command, Room, Step};
+//! use register::{Answer, Command, Entry, Room, Step};
 //!
 //! # fn main() -> Result<(), register::Error> {
 //! // One server and one drive settle a slot: piece 5 enters hoard 9.
@@ -22,11 +22,12 @@
 //! assert_eq!(room.step(Step::Finish { server: 0, slot: 0 })?, Answer::Committed(enter));
 //! let catalogue = room.catalogue(0)?;
 //! assert_eq!((catalogue.taken, catalogue.skipped), (1, 0));
-//! assert_eq!(catalogue.hoards[5], 9);
+//! assert_eq!(catalogue.entry(5), Some(Entry::Entered(9)));
 //! # Ok(())
 //! # }
 //! ```
 
+mod catalogue;
 mod cells;
 mod command;
 mod error;
@@ -35,9 +36,10 @@ mod record;
 mod room;
 mod step;
 
+pub use catalogue::{Catalogue, Entry, PIECES, STRUCK};
 pub use cells::{block_at, server_at, Block, Server};
 pub use command::{Command, Kind};
 pub use error::Error;
 pub use record::{Record, LONGEST_RECORD};
-pub use room::{room_length, Catalogue, NotOpened, Room, PIECES};
+pub use room::{room_length, NotOpened, Room};
 pub use step::{Answer, Step};

@@ -3,10 +3,7 @@
 use std::fmt;
 
 use crate::raw;
-use crate::{Answer, Error, Record, Step};
-
-/// The number of pieces, and of a catalogue's cells.
-pub const PIECES: usize = 64;
+use crate::{Answer, Catalogue, Error, Record, Step, PIECES};
 
 /// The number of cells of a room, none where the sizes do not fit.
 ///
@@ -44,18 +41,6 @@ pub fn room_length(servers: u32, drives: u32, slots: u32) -> Option<usize> {
 #[derive(Clone, Debug, PartialEq, Eq)]
 pub struct Room<R = Vec<u32>> {
     row: R,
-}
-
-/// What one server knows of the pieces.
-#[derive(Clone, Copy, Debug, PartialEq, Eq)]
-#[non_exhaustive]
-pub struct Catalogue {
-    /// Each piece's hoard, 0 for a piece that is in none.
-    pub hoards: [u32; PIECES],
-    /// How many commands were taken.
-    pub taken: u32,
-    /// How many of these were skipped.
-    pub skipped: u32,
 }
 
 /// A row that was not opened, handed back with the reason.
@@ -205,18 +190,19 @@ impl<R: AsRef<[u32]>> Room<R> {
     /// [`Error::Cells`] where the row is no room, [`Error::Beyond`] where it has no
     /// such server.
     pub fn catalogue(&self, server: u32) -> Result<Catalogue, Error> {
-        let mut hoards = [0; PIECES];
-        let (taken, skipped) = self.catalogue_in(server, &mut hoards)?;
-        Ok(Catalogue { hoards, taken, skipped })
+        let mut cells = [0; PIECES];
+        let (taken, skipped) = self.catalogue_in(server, &mut cells)?;
+        Ok(Catalogue { cells, taken, skipped })
     }
 
-    /// The same in 64 lent cells: how many commands were taken and skipped.
+    /// The same in 64 lent cells, each as [`Entry::of`](crate::Entry::of) reads it:
+    /// how many commands were taken and skipped.
     ///
     /// # Errors
     ///
     /// [`Error::Length`] where the lent cells are not 64; otherwise those of
     /// [`Room::catalogue`].
-    pub fn catalogue_in(&self, server: u32, hoards: &mut [u32]) -> Result<(u32, u32), Error> {
-        raw::catalogue(self.row.as_ref(), server, hoards)
+    pub fn catalogue_in(&self, server: u32, cells: &mut [u32]) -> Result<(u32, u32), Error> {
+        raw::catalogue(self.row.as_ref(), server, cells)
     }
 }

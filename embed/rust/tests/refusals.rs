@@ -96,5 +96,5 @@ fn each_answer() {
         assert_eq!(room.step(Step::Finish { server, slot }), Ok(answer));
     }
     let catalogue = room.catalogue(0).expect("the room is in range");
-    assert_eq!((catalogue.taken, catalogue.skipped, catalogue.hoards[5]), (1, 0, 9));
+    assert_eq!((catalogue.taken, catalogue.skipped, catalogue.cells[5]), (1, 0, 9));
 }

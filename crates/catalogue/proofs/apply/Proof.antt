@@ -16,11 +16,11 @@ cast-at c = search needs
 kind-requires : tie.Need-kind-requires
 kind-requires c κs = search needs
 
-mul-applies : tie.Need-mul-applies
-mul-applies c = search needs
+mul-cell : tie.Need-mul-cell
+mul-cell c = search needs
 
-slice-read-applies : tie.Need-slice-read-applies
-slice-read-applies c = search needs
+slice-read-cell : tie.Need-slice-read-cell
+slice-read-cell c = search needs
 
 applies-requires : tie.Need-applies-requires
 applies-requires c κs = search needs
@@ -66,8 +66,8 @@ apply-spec =
     piece-requires
     cast-at
     kind-requires
-    mul-applies
-    slice-read-applies
+    mul-cell
+    slice-read-cell
     applies-requires
     returns
     hoard-requires
