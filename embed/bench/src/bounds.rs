@@ -28,7 +28,7 @@ pub fn print(lines: &[Line]) {
 fn is_bounded(on: On) -> bool {
     match on {
         On::Room(sizes, state) => sizes.length() == MOST_CELLS && state != "mixed",
-        On::Records { .. } => true,
+        On::NoRoom(_) => true,
     }
 }
 
@@ -41,6 +41,6 @@ fn ratio_of(line: &Line) -> String {
     let (call, ratio) = (line.call, line.ratio());
     match line.on {
         On::Room(_, state) => format!("{call}, largest room: worst {ratio:.2} ({state})"),
-        On::Records { .. } => format!("{call}: {ratio:.2}"),
+        On::NoRoom(_) => format!("{call}: {ratio:.2}"),
     }
 }

@@ -2,6 +2,7 @@
 //! docs/PERFORMANCE.md. No test: it fails only where the cells differ, and not where a
 //! bound does not hold.
 
+mod ballots;
 mod bounds;
 mod clock;
 mod machine;
@@ -40,7 +41,12 @@ fn main() {
     tables.records("Step records, one of each kind in turn");
     let records = rooms::one_of_each();
     let bytes = records.iter().map(Vec::len).sum::<usize>() as f64 / records.len() as f64;
-    tables.line("read", On::Records { bytes }, measure::reading(&records));
-    tables.line("write", On::Records { bytes }, measure::writing(&records));
+    tables.line("read", On::NoRoom(bytes), measure::reading(&records));
+    tables.line("write", On::NoRoom(bytes), measure::writing(&records));
+    tables.ballots("The least own ballot above one found");
+    let questions = ballots::questions();
+    let found = On::NoRoom(questions.len() as f64);
+    tables.line("in turn", found, ballots::next::<true>(&questions));
+    tables.line("at once", found, ballots::next::<false>(&questions));
     bounds::print(&tables.lines);
 }

@@ -4,11 +4,12 @@ use other::Sizes;
 
 use crate::clock::Times;
 
-/// What a call works on: a room in some state, or records of this mean length.
+/// What a call works on: a room in some state; or no room, with the number that its table
+/// has in place of the cells.
 #[derive(Clone, Copy)]
 pub enum On {
     Room(Sizes, &'static str),
-    Records { bytes: f64 },
+    NoRoom(f64),
 }
 
 /// A call that was timed.
@@ -31,7 +32,7 @@ impl Line {
             On::Room(Sizes { servers, drives, slots }, state) => {
                 format!("{servers},{drives},{slots} {state}")
             }
-            On::Records { .. } => self.call.to_string(),
+            On::NoRoom(_) => self.call.to_string(),
         }
     }
 
@@ -39,7 +40,7 @@ impl Line {
     pub fn place(&self) -> String {
         match self.on {
             On::Room(..) => format!("{} {}", self.call, self.name()),
-            On::Records { .. } => self.name(),
+            On::NoRoom(_) => self.name(),
         }
     }
 
@@ -48,7 +49,7 @@ impl Line {
         // A call on a room judges every cell.
         let (size, done) = match self.on {
             On::Room(sizes, _) => (sizes.length() as f64, sizes.length() as f64),
-            On::Records { bytes } => (bytes, 1.0),
+            On::NoRoom(size) => (size, 1.0),
         };
         let (name, ratio, rate) = (self.name(), self.ratio(), done / register * 1000.0);
         println!("{name:<16} {size:>6} {register:>12.1} {other:>9.1} {ratio:>6.2} {rate:>11.0}");
@@ -67,9 +68,14 @@ impl Tables {
         head(title, ["room", "cells", "Mcells/s"]);
     }
 
-    /// Begins a table of calls on records.
+    /// Begins a table of calls on records, with their mean length.
     pub fn records(&self, title: &str) {
         head(title, ["record", "bytes", "Mrecords/s"]);
+    }
+
+    /// Begins a table of calls on ballots, with how many were found.
+    pub fn ballots(&self, title: &str) {
+        head(title, ["ballot", "found", "Mballots/s"]);
     }
 
     /// Prints a line and keeps it.

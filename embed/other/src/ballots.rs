@@ -16,7 +16,8 @@ pub fn owner(ballot: u32, servers: u32) -> Option<u32> {
 /// limit. `found` is at most the limit and `server` is below `servers`.
 pub fn least_own_above(found: u32, server: u32, servers: u32) -> Option<u32> {
     // Ballot found + 1 belongs to server found mod N.
-    let away = (server + servers - found % servers) % servers;
+    let first = found % servers;
+    let away = if server < first { server + servers - first } else { server - first };
     let ballot = found + 1 + away;
     (ballot <= BALLOT_LIMIT).then_some(ballot)
 }

@@ -1,0 +1,2 @@
+-- How a server's next ballot is one number for C.
+pub mod Number
