@@ -1,6 +1,6 @@
--- Laws of ballots: a ballot has one owner, and the next own ballot is the owner's, above the one found, and the least.
-use Prim.Native.Nat.{ℕ, zero, suc, _+_, _-_, _%_, _<_, _≤_}
-use mathlib.Core.Path.{_≡_, _∙_, sym}
+-- Laws of ballots: a ballot has one owner, and the next own ballot is the owner's least above the one found (request E2).
+use Prim.Native.Nat.{ℕ, _-_, _%_, _<_, _≤_}
+use mathlib.Core.Path.{_≡_, refl, _∙_, sym}
 use mathlib.Core.Bool.{true, _&&_}
 use native.Mathlib.Omega.{arith}
 use lib.Dec.{eqb, leb, ltb}
@@ -8,7 +8,10 @@ use borrow.Author.Tests.{eqb-true, leb-true, ltb-true, lt-ltb, le-leb, eq-eqb}
 use Rattle.lemmas.proofs.Tests.{by-test, and-left, and-right, and-intro}
 use Rattle.state.specs.Block.{limit}
 use Rattle.ballot.specs.Ballot.{isBallot, owned, leastAbove, askable, nextOwn}
+use Rattle.ballot.specs.Least.{LeastOwn, NoneLeft, IsNext}
+use Rattle.ballot.specs.declared.Next.{Next}
 use Rattle.ballot.specs.declared.Next.the-variants.{Ballot, Spent}
+use Rattle.ballot.proofs.Remainders.{Asked, asked, formula, none-nearer}
 
 -- what owning a ballot says
 pub record Owned (n p b : ℕ) : Type 0 where
@@ -47,58 +50,21 @@ owned-within n p b e = owned-says n p b e .within
 pub one-owner : (n p q b : ℕ) → owned n p b ≡ true → owned n q b ≡ true → p ≡ q
 one-owner n p q b hp hq = sym (owned-says n p b hp .owner) ∙ owned-says n q b hq .owner
 
--- a room has 1, 2, 3 or 4 servers
-by-servers : (P : ℕ → Type 0) → P 1 → P 2 → P 3 → P 4 → (n : ℕ) → 0 < n → n ≤ 4 → P n
-by-servers P a b c d zero h l = absurd (omega arith)
-by-servers P a b c d (suc zero) h l = a
-by-servers P a b c d (suc (suc zero)) h l = b
-by-servers P a b c d (suc (suc (suc zero))) h l = c
-by-servers P a b c d (suc (suc (suc (suc zero)))) h l = d
-by-servers P a b c d (suc (suc (suc (suc (suc n))))) h l = absurd (omega arith)
+-- what a ballot that is answered is by the formula
+record Answered (n p f b : ℕ) : Type 0 where
+  may : Asked n p f
+  within : b ≤ limit
+  value : b ≡ leastAbove n p f
 
--- what the formula of the least own number gives
-pub record Least (n p f m : ℕ) : Type 0 where
-  pub above : f < m
-  pub near : m ≤ f + n
-  pub owner : (m - 1) % n ≡ p
-
-least : (n p f : ℕ) → p < n → n ≤ 4 → Least n p f (leastAbove n p f)
-unfolding leastAbove
-least n p f h l =
-    by-servers (λ (k : ℕ). p < k → Least k p f (leastAbove k p f))
-    (λ g. record { above = omega arith; near = omega arith; owner = omega arith })
-    (λ g. record { above = omega arith; near = omega arith; owner = omega arith })
-    (λ g. record { above = omega arith; near = omega arith; owner = omega arith })
-    (λ g. record { above = omega arith; near = omega arith; owner = omega arith })
-    n (omega arith) l h
-
--- no number of p's lies between
-between : (n p f b : ℕ) → p < n → n ≤ 4 → f < b → (b - 1) % n ≡ p → leastAbove n p f ≤ b
-unfolding leastAbove
-between n p f b h l a o =
-    by-servers (λ (k : ℕ). p < k → (b - 1) % k ≡ p → leastAbove k p f ≤ b)
-    (λ g e. omega arith) (λ g e. omega arith) (λ g e. omega arith) (λ g e. omega arith)
-    n (omega arith) l h o
-
--- what the two answers say of their number
-pub record Next-is (n p f b : ℕ) : Type 0 where
-  pub server : p < n
-  pub few : n ≤ 4
-  pub within : b ≤ limit
-  pub value : b ≡ leastAbove n p f
-
-next-is : (n p f b : ℕ) → nextOwn n p f ≡ Ballot b → Next-is n p f b
+answered : (n p f b : ℕ) → nextOwn n p f ≡ Ballot b → Answered n p f b
 unfolding nextOwn
-next-is n p f b e =
+answered n p f b e =
     by-test (askable n p f && leb (leastAbove n p f) limit)
     (λ t.
-    let ask = and-left (askable n p f) (leb (leastAbove n p f) limit) t in
     let v : Ballot (leastAbove n p f) ≡ Ballot b = sym (simp t) ∙ e in
     let w : leastAbove n p f ≡ b = cc in
-    let front = and-left (ltb p n && leb n 4) (leb f limit) ask in
     record {
-      server = ltb-true p n (and-left (ltb p n) (leb n 4) front);
-      few = leb-true n 4 (and-right (ltb p n) (leb n 4) front);
+      may = asked n p f (and-left (askable n p f) (leb (leastAbove n p f) limit) t);
       within = omega (arith, leb-true (leastAbove n p f) limit (and-right (askable n p f) (leb (leastAbove n p f) limit) t));
       value = sym w;
     })
@@ -107,43 +73,48 @@ next-is n p f b e =
     let w : _≡_ {A = ℕ} 0 1 = cc in
     absurd (omega arith))
 
--- the next ballot is p's
-pub next-owned : (n p f b : ℕ) → nextOwn n p f ≡ Ballot b → owned n p b ≡ true
-next-owned n p f b e =
-    let i = next-is n p f b e in
-    let m = least n p f (i .server) (i .few) in
+-- a ballot that is answered is the least own one above
+pub ballot-answered : (n p f b : ℕ) → nextOwn n p f ≡ Ballot b → LeastOwn n p f b
+ballot-answered n p f b e =
+    let i = answered n p f b e in
+    let server = i .may .server in
+    let few = i .may .few in
+    let m = formula n p f server few in
     let v : b ≡ leastAbove n p f = i .value in
-    says-owned n p b
-    (record {
-      server = i .server;
-      positive = omega (arith, m .above);
+    record {
+      own = says-owned n p b
+          (record { server = server; positive = omega (arith, m .above); within = i .within; owner = rw v (m .owner) });
+      above = omega (arith, m .above);
       within = i .within;
-      owner = rw v (m .owner);
-    })
+      none-between = λ a o h k. omega (arith, none-nearer n p f a server few h (owned-says n p a o .owner), v);
+    }
 
--- it is above the one found
+pub next-owned : (n p f b : ℕ) → nextOwn n p f ≡ Ballot b → owned n p b ≡ true
+next-owned n p f b e = ballot-answered n p f b e .own
+
 pub next-above : (n p f b : ℕ) → nextOwn n p f ≡ Ballot b → f < b
-next-above n p f b e =
-    let i = next-is n p f b e in
-    omega (arith, least n p f (i .server) (i .few) .above, i .value)
+next-above n p f b e = ballot-answered n p f b e .above
 
--- no own ballot lies between
-pub next-least : (n p f b : ℕ) → nextOwn n p f ≡ Ballot b → (a : ℕ) → owned n p a ≡ true → f < a → b ≤ a
-next-least n p f b e a o h =
-    let i = next-is n p f b e in
-    omega (arith, between n p f a (i .server) (i .few) h (owned-says n p a o .owner), i .value)
-
--- where none is left, no own ballot is above the one found
-pub next-spent : (n p f : ℕ) → n ≤ 4 → f ≤ limit → nextOwn n p f ≡ Spent → (a : ℕ) → owned n p a ≡ true → f < a → ⊥
+-- where none is answered, no own ballot is above
+pub none-answered : (n p f : ℕ) → n ≤ 4 → nextOwn n p f ≡ Spent → NoneLeft n p f
 unfolding nextOwn
-next-spent n p f l g e a o h =
+none-answered n p f few e a o h =
     let own = owned-says n p a o in
-    let small : leastAbove n p f ≤ limit = omega (arith, between n p f a (own .server) l h (own .owner), own .within) in
+    let small : leastAbove n p f ≤ limit = omega (arith, none-nearer n p f a (own .server) few h (own .owner), own .within) in
     let t : (askable n p f && leb (leastAbove n p f) limit) ≡ true =
     and-intro (askable n p f) (leb (leastAbove n p f) limit)
     (and-intro (ltb p n && leb n 4) (leb f limit)
-    (and-intro (ltb p n) (leb n 4) (lt-ltb p n (own .server)) (le-leb n 4 l)) (le-leb f limit g))
+    (and-intro (ltb p n) (leb n 4) (lt-ltb p n (own .server)) (le-leb n 4 few))
+    (le-leb f limit (omega (arith, own .within))))
     (le-leb (leastAbove n p f) limit small) in
     let v : Ballot (leastAbove n p f) ≡ Spent = sym (simp t) ∙ e in
     let w : _≡_ {A = ℕ} 0 1 = cc in
     omega arith
+
+either : (n p f : ℕ) → n ≤ 4 → (next : Next) → nextOwn n p f ≡ next → IsNext n p f next
+either n p f few (Ballot b) e = ballot-answered n p f b e
+either n p f few Spent e = none-answered n p f few e
+
+-- request E2, for rooms of up to four servers, every server and every number found
+pub least-own-ballot : (n p f : ℕ) → n ≤ 4 → IsNext n p f (nextOwn n p f)
+least-own-ballot n p f few = either n p f few (nextOwn n p f) refl

@@ -1,2 +1,3 @@
--- Laws of ballots, for the crates above.
+-- Laws of ballots, for the crates above, and the arithmetic below them.
+pub mod Remainders
 pub mod Laws

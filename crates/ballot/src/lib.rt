@@ -1,6 +1,7 @@
 // Ballots: who owns one, and a server's least ballot above one that it found.
 ghost use mathlib.Core.Path.{_≡_};
-ghost use Rattle.ballot.specs.Ballot.{owned, nextOwn};
+ghost use mathlib.Core.Bool.{true};
+ghost use Rattle.ballot.specs.Ballot.{owned, askable, leastAbove, nextOwn};
 use state::Block;
 
 // A server's next ballot, or none where its ballots are spent.
@@ -28,10 +29,23 @@ pub fn next_own(n: u32, p: u32, found: u32) -> Next
     ensures { λ r. ⌜ r ≡ nextOwn n p found ⌝ }
 {
     if (p < n) & (n <= 4) & Block::ballot_fits(found) {
-        let least = found + (p + n - found % n) % n + 1;
+        let least = least_above(n, p, found);
         if Block::ballot_fits(least) {
             return Next::Ballot(least);
         }
     }
     Next::Spent
+}
+
+// The least number above the one found that is p's by its remainder. Nothing is divided by n, since a small board divides
+// slowly: a remainder by 3 is a multiplication, and one by 1, 2 or 4 is the low bits. What lies between is counted back
+// from the limit, a multiple of 4, or from two more, a multiple of 3; so no number on the way is above 1,000,004.
+fn least_above(n: u32, p: u32, found: u32) -> u32
+    requires { ⌜ askable n p found ≡ true ⌝ }
+    ensures { λ r. ⌜ r ≡ leastAbove n p found ⌝ }
+{
+    if n == 3 {
+        return found + (Block::LIMIT + 2 - found + p) % 3 + 1;
+    }
+    found + ((Block::LIMIT - found + p) & (n - 1)) + 1
 }
