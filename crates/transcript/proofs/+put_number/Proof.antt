@@ -43,6 +43,16 @@ abbrev put-number-below : ℕ → In 1 put-number-kinds.ps
 put-number-below t =
     and 1 put-number-kinds.ps (falls 1 put-number-kinds.ps _<_ μ-put-number t) put-number.Pre
 
+-- where the last digit is stored: the beginning, and what the digits before it put
+abbrev Last : ℕ → Type 0
+Last t = put-number-lts.After-slice-known2 (put-number-below t, put-number.Post) (put-number-at t) put-number.Post
+
+abbrev start : (t : ℕ) → Last t → put-number-lts.Start (put-number-below t, put-number.Post) (put-number-at t) put-number.Post
+start t c = c .before .before .before .before .before .before
+
+longer : (t : ℕ) (c : Last t) → length (digits (start t c .args .number)) ≡ length (digits (start t c .args .number / 10)) + 1
+longer t c = more-length (start t c .args .number) (omega arith)
+
 put-number-cast-out :
     (t : ℕ) →
     put-number-lts.Need-cast-out
@@ -116,18 +126,16 @@ put-number-slice-write-out-2 : (t : ℕ) → put-number-lts.Need-slice-write-out
   put-number.Post,
 ) (put-number-at t) put-number.Post
 put-number-slice-write-out-2 t c =
-    let at-start = c .before .before .before .before .before .before in
     let at-put-number = c .before .before .put-number in
-    omega (arith, more-length (at-start .args .number) (omega arith), at-put-number .ensures .place, at-put-number .kept .0)
+    omega (arith, longer t c, at-put-number .ensures .place, at-put-number .kept .0)
 
 put-number-add-result-2 : (t : ℕ) → put-number-lts.Need-add-result-2 (
   put-number-below t,
   put-number.Post,
 ) (put-number-at t) put-number.Post
 put-number-add-result-2 t c =
-    let at-start = c .before .before .before .before .before .before in
     let at-put-number = c .before .before .put-number in
-    omega (arith, more-length (at-start .args .number) (omega arith), at-put-number .ensures .place)
+    omega (arith, longer t c, at-put-number .ensures .place)
 
 put-number-same-length-2 : (t : ℕ) → put-number-lts.Need-same-length-2 (
   put-number-below t,
@@ -142,7 +150,7 @@ put-number-returns-2 : (t : ℕ) → put-number-lts.Need-returns-2 (
   put-number.Post,
 ) (put-number-at t) put-number.Post
 put-number-returns-2 t c =
-    let at-start = c .before .before .before .before .before .before in
+    let at-start = start t c in
     let at-put-number = c .before .before .put-number in
     put-last (at-start .args .number) (omega arith) (at-start .pre .1) (at-put-number .kept .0) (at-put-number .ensures)
 

@@ -3,15 +3,19 @@ use borrow.Author.Needs.{needs}
 use Rattle.transcript.proofs.put_answer.Statement.{statement}
 use Rattle.transcript.proofs.put_answer.Tie as tie
 use native.Mathlib.Omega.{arith}
-use Prim.Native.Nat.{ℕ}
+use Prim.Native.Nat.{ℕ, _+_, _≤_}
 use mathlib.Core.Path.{_≡_, sym, subst}
 use mathlib.Core.List.{List}
 use Rattle.state.specs.declared.Answer.{Answer}
 use Rattle.transcript.specs.Lines.{answerText, Put}
 
+-- a label and a number that are an answer's text: the longest label has 11 bytes
 told
-    : {l m : List ℕ} {at next : ℕ} {a b : Answer} → a ≡ b → Put l at (answerText b) m next → Put l at (answerText a) m next
-told {l} {m} {at} {next} e p = subst (λ (a : Answer). Put l at (answerText a) m next) (sym e) p
+    : {l m : List ℕ} {at next label : ℕ} {a b : Answer} → a ≡ b → label ≤ 11
+    → Put l at (answerText b) m next × (next ≤ at + label + 10)
+    → Put l at (answerText a) m next × (next ≤ at + 21)
+told {l} {m} {at} {next} e short p =
+    (subst (λ (a : Answer). Put l at (answerText a) m next) (sym e) (p .0), omega (arith, p .1))
 
 enum-told : tie.Need-enum-told
 enum-told c = search needs
@@ -63,45 +67,40 @@ same-length c = search needs
 
 returns : tie.Need-returns
 returns c =
-    let at-enum-told = c .before .before .before .before .before .enum-told in
-    let at-put-field = c .before .before .put-field in
-    (told (at-enum-told .given .1) (at-put-field .ensures .0), omega (arith, at-put-field .ensures .1))
+    let call = c .before .before in
+    told (call .before .before .before .enum-told .given .1) (omega arith) (call .put-field .ensures)
 
 same-length-2 : tie.Need-same-length-2
 same-length-2 c = search needs
 
 returns-2 : tie.Need-returns-2
 returns-2 c =
-    let at-answer = c .before .before .before .before .before .before .answer in
-    let at-put-field2 = c .before .before .put-field2 in
-    (told (at-answer .given .1) (at-put-field2 .ensures .0), omega (arith, at-put-field2 .ensures .1))
+    let call = c .before .before in
+    told (call .before .before .before .before .answer .given .1) (omega arith) (call .put-field2 .ensures)
 
 same-length-3 : tie.Need-same-length-3
 same-length-3 c = search needs
 
 returns-3 : tie.Need-returns-3
 returns-3 c =
-    let at-answer2 = c .before .before .before .before .before .before .answer2 in
-    let at-put-field3 = c .before .before .put-field3 in
-    (told (at-answer2 .given .1) (at-put-field3 .ensures .0), omega (arith, at-put-field3 .ensures .1))
+    let call = c .before .before in
+    told (call .before .before .before .before .answer2 .given .1) (omega arith) (call .put-field3 .ensures)
 
 same-length-4 : tie.Need-same-length-4
 same-length-4 c = search needs
 
 returns-4 : tie.Need-returns-4
 returns-4 c =
-    let at-answer3 = c .before .before .before .before .before .before .answer3 in
-    let at-put-field4 = c .before .before .put-field4 in
-    (told (at-answer3 .given .1) (at-put-field4 .ensures .0), omega (arith, at-put-field4 .ensures .1))
+    let call = c .before .before in
+    told (call .before .before .before .before .answer3 .given .1) (omega arith) (call .put-field4 .ensures)
 
 same-length-5 : tie.Need-same-length-5
 same-length-5 c = search needs
 
 returns-5 : tie.Need-returns-5
 returns-5 c =
-    let at-answer4 = c .before .before .before .before .before .before .answer4 in
-    let at-put-field5 = c .before .before .put-field5 in
-    (told (at-answer4 .given .1) (at-put-field5 .ensures .0), omega (arith, at-put-field5 .ensures .1))
+    let call = c .before .before in
+    told (call .before .before .before .before .answer4 .given .1) (omega arith) (call .put-field5 .ensures)
 
 pub put-answer-spec : {M : Type 1} → statement M
 put-answer-spec =
