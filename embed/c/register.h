@@ -81,7 +81,7 @@ static inline const char *register_message(uint32_t refusal)
     case REGISTER_E_NOT_WRITTEN:
         return "the drive was not written in this phase";
     case REGISTER_E_NO_MAJORITY:
-        return "no majority of drives was recalled, or written and read";
+        return "no majority of drives was recalled, or written and read (half of them counts only with drive 0)";
     case REGISTER_E_NOT_ABOVE:
         return "the ballot is not above those that the server knows";
     case REGISTER_E_NOTHING_OFFERED:

@@ -156,6 +156,37 @@ static void steps(void)
     CHECK(room[at + REGISTER_BLOCK_MBAL] == 1000000 && room[at + REGISTER_BLOCK_INP] == 0);
 }
 
+/* A step of the one server of a shelf of two drives: 20 cells. */
+static uint64_t on_shelf(uint32_t *shelf, uint32_t kind, uint8_t drive, uint32_t number)
+{
+    uint8_t record[REGISTER_LONGEST_RECORD];
+    uint64_t used = register_write((uint8_t)kind, 0, 0, drive, 0, number, record, sizeof record);
+    return register_step(shelf, 20, record, REGISTER_NUMBER(used));
+}
+
+/* Of two drives, drive 0 alone is enough for Rejoin and Finish, and drive 1 alone is not. */
+static void two_drives(void)
+{
+    static const uint64_t refused_10 = ((uint64_t)REGISTER_REFUSED << 32) + REGISTER_E_NO_MAJORITY;
+    uint32_t shelf[20];
+    CHECK(register_open(shelf, 20, 1, 2, 1) == 0);
+    CHECK(on_shelf(shelf, REGISTER_OFFER, 0, constants[0]) == 0);
+    CHECK(on_shelf(shelf, REGISTER_RECALL, 1, 0) == 0);
+    CHECK(on_shelf(shelf, REGISTER_REJOIN, 0, 1) == refused_10);
+    CHECK(on_shelf(shelf, REGISTER_FAIL, 0, 0) == 0);
+    CHECK(on_shelf(shelf, REGISTER_OFFER, 0, constants[0]) == 0);
+    CHECK(on_shelf(shelf, REGISTER_DRIVE_OFF, 1, 0) == 0);
+    CHECK(on_shelf(shelf, REGISTER_RECALL, 0, 0) == 0);
+    CHECK(on_shelf(shelf, REGISTER_REJOIN, 0, 1) == 0);
+    CHECK(on_shelf(shelf, REGISTER_WRITE, 0, 0) == 0);
+    CHECK(REGISTER_WORD(on_shelf(shelf, REGISTER_FINISH, 0, 0)) == REGISTER_CHOSEN);
+    CHECK(on_shelf(shelf, REGISTER_DRIVE_ON, 1, 0) == 0);
+    CHECK(on_shelf(shelf, REGISTER_WRITE, 1, 0) == 0);
+    CHECK(on_shelf(shelf, REGISTER_FINISH, 0, 0) == refused_10);
+    CHECK(on_shelf(shelf, REGISTER_WRITE, 0, 0) == 0);
+    CHECK(REGISTER_WORD(on_shelf(shelf, REGISTER_FINISH, 0, 0)) == REGISTER_COMMITTED);
+}
+
 /* Rows and lengths that are wrong. */
 static void rows(void)
 {
@@ -260,6 +291,7 @@ int main(void)
     messages();
     sizes();
     steps();
+    two_drives();
     rows();
     struck();
     records();

@@ -9,7 +9,7 @@ use Rattle.quorum.specs.Marks.{stands, marked}
 use Rattle.quorum.specs.Sets.{gathered, majority}
 use Rattle.lemmas.proofs.Tests.{by-test}
 use Rattle.quorum.proofs.MarkLaws.{stands-small, add-same, add-other, marked-new}
-use Rattle.quorum.proofs.Sizes.{majority-same}
+use Rattle.quorum.proofs.Majorities.{majority-same}
 
 pub gathered-zero : (f : ℕ → Bool) → gathered 0 f ≡ 0
 unfolding gathered

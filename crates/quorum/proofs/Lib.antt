@@ -8,6 +8,8 @@ pub mod AllBelow
 pub mod Sizes
 -- any two majorities share a drive
 pub mod Share
+-- what a majority looks at
+pub mod Majorities
 -- the cell that a set is gathered in
 pub mod Gathered
 -- one `or` judges a whole cell

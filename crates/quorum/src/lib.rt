@@ -28,7 +28,7 @@ pub fn without_mark(marks: u32, i: u32) -> u32
     }
 }
 
-// Whether the drives whose bit stands, of those that exist, are a majority of them.
+// Whether the drives whose bit stands, of those that exist, are a majority of them. Drive 0 decides a tie.
 pub fn is_majority(drives: u32, marks: u32) -> bool
     ensures { λ r. ⌜ r ≡ majority drives (stands marks) ⌝ }
 {
@@ -37,7 +37,12 @@ pub fn is_majority(drives: u32, marks: u32) -> bool
     } else {
         marks
     };
-    drives < 2 * u32::count_ones(counted)
+    let twice = 2 * u32::count_ones(counted);
+    if drives == twice {
+        has_mark(counted, 0)
+    } else {
+        drives < twice
+    }
 }
 
 // Whether no mark stands but those that stand in the cell of legal marks: one operation for the whole cell.

@@ -92,8 +92,6 @@ case-says (Owned n b p) e =
     let only : ℕ → Bool = λ q. not (owned n q b) || eqb q p in
     let t = both (owned n p b) (allBelow n only) e in
     (t .0, λ q h o. eqb-true q p (implied (owned n q b) (eqb q p) (all-at n only (t .1) q h) o))
-case-says (Majority d least) e =
-    λ m h.
-    alike (majority d (stands m)) (leb least (ones m))
-    (all-at (2 ^ d) (λ k. Bool·beq (majority d (stands k)) (leb least (ones k))) e m h)
+case-says (Majority d counts) e =
+    λ m h. alike (majority d (stands m)) (counts m) (all-at (2 ^ d) (λ k. Bool·beq (majority d (stands k)) (counts k)) e m h)
 case-says (Run n d run) e = run-says (newRoom (sizes n d 1)) run e

@@ -1,7 +1,9 @@
 -- Some starred values in plain words, each read off the table by its law.
 use Prim.Native.Nat.{ℕ, _^_, _<_}
 use mathlib.Core.Path.{_≡_}
+use mathlib.Core.Bool.{true, false}
 use mathlib.Core.List.{List, [], _∷_, _++_}
+use native.Mathlib.Omega.{arith}
 use lib.Count.{ones}
 use lib.Dec.{leb}
 use Rattle.quorum.specs.Marks.{stands}
@@ -32,6 +34,15 @@ no-servers d s row = starred-says 2 d s row .refused
 pub above-the-limit : offered 81725 ≡ Refused 5
 unfolding starred
 above-the-limit = starred-says 4 .1
+
+-- drive 0 alone of two drives, and not drive 1 alone
+pub drive-0-of-2 : majority 2 (stands 1) ≡ true
+unfolding starred
+drive-0-of-2 = starred-says 9 1 (omega arith)
+
+pub drive-1-of-2 : majority 2 (stands 2) ≡ false
+unfolding starred
+drive-1-of-2 = starred-says 9 2 (omega arith)
 
 -- any four of seven drives, and no three
 pub majority-of-7 : (m : ℕ) → m < 2 ^ 7 → majority 7 (stands m) ≡ leb 4 (ones m)

@@ -32,14 +32,22 @@ pub data Case : Type 0 where
   NoCommand : (v number : ℕ) → Case
   -- among so many servers the ballot is this server's
   Owned : (servers ballot server : ℕ) → Case
-  -- of so many drives, the least number that is a majority
-  Majority : (drives least : ℕ) → Case
+  -- of so many drives, the sets that are a majority, as a test of mark cells
+  Majority : (drives : ℕ) (counts : ℕ → Bool) → Case
   -- a run in a room of so many servers and drives
   Run : (servers drives : ℕ) → List Line → Case
 
 -- what the smallest room, just opened, answers to an Offer of v
 abbrev pub offered : ℕ → Answer
 offered v = answered (newRoom (sizes 1 1 1)) (Offer 0 0 v)
+
+-- the tests of mark cells: any set of so many drives or more, and one of the sets listed
+abbrev pub atLeast : ℕ → ℕ → Bool
+atLeast least m = leb least (ones m)
+
+abbrev pub oneOf : List ℕ → ℕ → Bool
+oneOf [] m = false
+oneOf (set ∷ sets) m = eqb m set || oneOf sets m
 
 -- v is a command of kind k, piece p and hoard h
 pub record IsCommand (v k p h : ℕ) : Type 0 where
@@ -61,7 +69,7 @@ Says (Unopened n number) = (d s : ℕ) (row : List ℕ) → IsUnopened (sizes n 
 Says (Command v k p h) = IsCommand v k p h
 Says (NoCommand v number) = (isCommand cabinetLimits v ≡ false) × (offered v ≡ Refused number)
 Says (Owned n b p) = (owned n p b ≡ true) × ((q : ℕ) → q < n → owned n q b ≡ true → q ≡ p)
-Says (Majority d least) = (m : ℕ) → m < 2 ^ d → majority d (stands m) ≡ leb least (ones m)
+Says (Majority d counts) = (m : ℕ) → m < 2 ^ d → majority d (stands m) ≡ counts m
 Says (Run n d run) = Replays (newRoom (sizes n d 1)) run
 
 -- A number of servers that does not fit with one drive and one slot fits with no others, and sizes that do not fit are
@@ -78,7 +86,7 @@ holds (Command v k p h) =
     && (eqb (kindOf v) k && (eqb (pieceOf v) p && (eqb (hoardOf v) h && sameAnswer (offered v) Done)))
 holds (NoCommand v number) = not (isCommand cabinetLimits v) && sameAnswer (offered v) (Refused number)
 holds (Owned n b p) = owned n p b && allBelow n (λ q. not (owned n q b) || eqb q p)
-holds (Majority d least) = allBelow (2 ^ d) (λ m. Bool·beq (majority d (stands m)) (leb least (ones m)))
+holds (Majority d counts) = allBelow (2 ^ d) (λ m. Bool·beq (majority d (stands m)) (counts m))
 holds (Run n d run) = replays (newRoom (sizes n d 1)) run
 
 -- every case of a list passes its test

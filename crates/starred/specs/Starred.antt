@@ -6,7 +6,7 @@ use Rattle.state.specs.declared.Answer.the-variants.{Done, Outbid, Chosen, Refu
 use Rattle.state.specs.declared.Step.the-variants.{Offer, Recall, Rejoin, Bid, Write, Read, Finish, Fail}
 use Rattle.state.specs.Block.{block}
 use Rattle.starred.specs.Runs.{Line, _↝_, Own, OnDrive}
-use Rattle.starred.specs.Cases.{Case, Length, Unopened, Command, NoCommand, Owned, Majority, Run}
+use Rattle.starred.specs.Cases.{Case, Length, Unopened, Command, NoCommand, Owned, Majority, Run, atLeast, oneOf}
 
 -- 1,000,001 is no ballot, in a run where every other check passes. By its remainder it would be server 0's.
 abbrev pub pastTheLimit : List Line
@@ -67,6 +67,13 @@ recalled first second = Recall 0 0 first ↝ Done ∷ Recall 0 0 second ↝ Done
 abbrev pub rejoined : ℕ → ℕ → List Line
 rejoined first second = proposed ++ recalled first second ++ (Own 0 (block 3 1 66825) ∷ [])
 
+-- two sets of two drives, as mark cells
+abbrev pub drive0 : ℕ
+drive0 = 1
+
+abbrev pub bothDrives : ℕ
+bothDrives = 3
+
 -- in the order of the list that was given
 unfoldable pub starred : List Case
 starred =
@@ -82,9 +89,9 @@ starred =
     -- the last ballot, and one past it
     ∷ Owned 2 1000000 1
     ∷ Run 2 1 pastTheLimit
-    -- majorities
-    ∷ Majority 2 2
-    ∷ Majority 7 4
+    -- majorities: of two drives, drive 0 alone or both; of seven, any four or more
+    ∷ Majority 2 (oneOf (drive0 ∷ bothDrives ∷ []))
+    ∷ Majority 7 (atLeast 4)
     -- outbid among four servers
     ∷ Run 4 1 outbid
     -- the same block whichever drive was recalled first

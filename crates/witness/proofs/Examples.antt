@@ -3,7 +3,7 @@ use mathlib.Core.Path.{refl}
 use lib.Count.{onesIn, ones}
 use Rattle.command.specs.Command.{limitOf, hoardFits, isCommand}
 use Rattle.ballot.specs.Ballot.{owned, leastAbove, nextOwn}
-use Rattle.quorum.specs.Marks.{stands, marked}
+use Rattle.quorum.specs.Marks.{stands, marked, unmarked}
 use Rattle.quorum.specs.Sets.{allBelow, size, gathered, majority, within}
 use Rattle.synod.specs.Arguments.{placesFit, commandFits}
 use Rattle.synod.specs.Changes.{meeting, marking, topping, recalling, rejoining, bidding, writing, reading, proposing, committing}
@@ -23,13 +23,13 @@ use Rattle.starred.specs.Runs.{newRoom, sameAnswer, replays}
 use Rattle.history.specs.Run.{ran, moveOf, outputBy, firstOutput}
 use Rattle.register.specs.OneHistory.{commandsOf}
 use Rattle.witness.specs.Example.{stepsOf, said, Worked}
-use Rattle.witness.specs.Runs.{survivor, rivals, gap, strikes, reuses}
+use Rattle.witness.specs.Runs.{survivor, rivals, gap, halves, strikes, reuses}
 use Rattle.witness.proofs.Reading.{eventsOf, Computed, holds}
 
 -- the line names all that the definitions of open, step and catalogue are made of
-computed : Computed survivor × Computed rivals × Computed gap × Computed strikes × Computed reuses
-unfolding survivor rivals gap strikes reuses newRoom sameAnswer replays stepsOf ran onesIn ones
-    limitOf hoardFits isCommand owned leastAbove nextOwn stands marked allBelow size gathered majority within
+computed : Computed survivor × Computed rivals × Computed gap × Computed halves × Computed strikes × Computed reuses
+unfolding survivor rivals gap halves strikes reuses newRoom sameAnswer replays stepsOf ran onesIn ones
+    limitOf hoardFits isCommand owned leastAbove nextOwn stands marked unmarked allBelow size gathered majority within
     placesFit commandFits
     meeting marking topping recalling rejoining bidding writing reading proposing committing
     must offerRule recallRule rejoinRule writeRule outbidRule readRule finishRule
@@ -38,7 +38,7 @@ unfolding survivor rivals gap strikes reuses newRoom sameAnswer replays stepsOf 
     openedCells openChecks opening opened stepChecks effectOf ruleOf judged failedBelow settled answered stepped
     applies entry cellsAfter skippedBy folded outputAt leading outputsOf entriesOf catalogueChecks catalogueOf catalogueCells
     eventsOf said commandsOf firstOutput outputBy moveOf
-computed = (refl, refl, refl, refl, refl)
+computed = (refl, refl, refl, refl, refl, refl)
 
 -- one server commits and fails, and the other, with another offer, commits the same command
 pub survivor-holds : Worked survivor
@@ -52,10 +52,14 @@ rivals-hold = holds rivals (computed .1)
 pub gap-holds : Worked gap
 gap-holds = holds gap (computed .2)
 
+-- drive 0 alone of two settles a command, and drive 1 alone no other
+pub halves-hold : Worked halves
+halves-hold = holds halves (computed .3)
+
 -- a strike of an entered piece is not skipped
 pub strikes-holds : Worked strikes
-strikes-holds = holds strikes (computed .3)
+strikes-holds = holds strikes (computed .4)
 
 -- an enter, a move and a strike of its number after that are skipped
 pub reuses-holds : Worked reuses
-reuses-holds = holds reuses (computed .4)
+reuses-holds = holds reuses (computed .5)

@@ -1,10 +1,10 @@
--- Three runs of two servers: a command that survives its server, two rivals, and a slot beyond an empty one. Two of one
--- server: a strike, and a struck number that is used again in vain.
+-- Four runs of two servers: a command that survives its server, two rivals, a slot beyond an empty one, and half of the
+-- drives. Two of one server: a strike, and a struck number that is used again in vain.
 use Prim.Native.Nat.{ℕ}
 use mathlib.Core.List.{List, [], _∷_, _++_}
 use lib.ListN.{set, replicate}
-use Rattle.state.specs.declared.Answer.the-variants.{Done, Outbid, Chosen, Committed}
-use Rattle.state.specs.declared.Step.the-variants.{Offer, Recall, Rejoin, Write, Read, Finish, Fail}
+use Rattle.state.specs.declared.Answer.the-variants.{Done, Outbid, Chosen, Committed, Refused}
+use Rattle.state.specs.declared.Step.the-variants.{Offer, Recall, Rejoin, Write, Read, Finish, Fail, DriveOff, DriveOn}
 use Rattle.catalogue.specs.Entry.{struck}
 use Rattle.catalogue.specs.Fold.{pieces}
 use Rattle.state.specs.Sizes.{sizes}
@@ -28,7 +28,7 @@ strike5 = 197888
 abbrev pub only : ℕ → ℕ → List ℕ
 only piece cell = set (replicate pieces 0) piece cell
 
--- in a room of one drive server p goes from phase 0 to 3 in slot s, undisturbed by q, and commits v
+-- on drive 0 alone, in a room of one drive or two, server p goes from phase 0 to 3 in slot s, undisturbed by q, and commits v
 abbrev pub settles : ℕ → ℕ → ℕ → ℕ → ℕ → List Line
 settles p q s ballot v =
     Recall p s 0 ↝ Done
@@ -101,6 +101,34 @@ gap =
       taken = 0 ∷ 0 ∷ [];
       skipped = 0 ∷ 0 ∷ [];
       left = replicate pieces 0 ∷ replicate pieces 0 ∷ [];
+    }
+
+-- with drive 0 off, server p recalls drive 1 and cannot rejoin
+abbrev pub shutOut : ℕ → ℕ → List Line
+shutOut p ballot =
+    Fail p ↝ Done ∷ Recall p 0 1 ↝ Done ∷ Rejoin p 0 ballot ↝ Refused 10 ∷ Recall p 0 0 ↝ Refused 8 ∷ []
+
+-- Drive 1 of two is off from the start, and server 0 settles its offer on drive 0 alone. Server 1 begins with another, drive
+-- 1 comes on and drive 0 goes off: on drive 1 alone it cannot finish, nor can anyone begin. With drive 0 on again both commit
+-- what was settled.
+unfoldable pub halves : Example
+halves =
+    record {
+      sizes = sizes 2 2 1;
+      run =
+          (DriveOff 1 ↝ Done ∷ Offer 0 0 enter5 ↝ Done ∷ settles 0 1 0 1 enter5)
+          ++ (Offer 1 0 enter7 ↝ Done ∷ Recall 1 0 0 ↝ Done ∷ Rejoin 1 0 2 ↝ Done ∷ [])
+          ++ (DriveOn 1 ↝ Done ∷ DriveOff 0 ↝ Done ∷ [])
+          ++ (Write 1 0 1 ↝ Done ∷ Read 1 0 1 0 ↝ Done ∷ Finish 1 0 ↝ Refused 10 ∷ [])
+          ++ (shutOut 1 4 ++ shutOut 0 3)
+          ++ (DriveOn 0 ↝ Done ∷ Offer 1 0 enter7 ↝ Done ∷ settles 1 0 0 4 enter5)
+          ++ settles 0 1 0 5 enter5;
+      chosen = enter5 ∷ enter5 ∷ enter5 ∷ [];
+      committed = enter5 ∷ enter5 ∷ enter5 ∷ [];
+      commands = enter5 ∷ [];
+      taken = 1 ∷ 1 ∷ [];
+      skipped = 0 ∷ 0 ∷ [];
+      left = only 5 9 ∷ only 5 9 ∷ [];
     }
 
 -- in a room of one server and one drive the server offers v in slot s and commits it

@@ -127,7 +127,9 @@ fn drives_where(drives: usize, holds: impl Fn(usize) -> bool) -> u32 {
     (0..drives).fold(0, |marks, drive| marks | (holds(drive) as u32) << drive)
 }
 
-/// Whether the marked drives are a majority of `drives`.
+/// Whether the marked drives are a majority of `drives`: more than half of
+/// them, or exactly half and drive 0 is marked.
 pub fn is_majority(marks: u32, drives: usize) -> bool {
-    2 * marks.count_ones() as usize > drives
+    let twice = 2 * marks.count_ones() as usize;
+    twice > drives || twice == drives && marks & 1 == 1
 }

@@ -4,7 +4,7 @@
 
 use std::collections::BTreeSet;
 
-use other::generator::{Chance, Driver, Habits};
+use other::generator::{decisive_half, Chance, Driver, Habits, Halves};
 use other::{catalogue, judge, open, room_length, step, Answer, Server, Sizes, Step, STRUCK};
 
 /// The one-value machine of a slot.
@@ -52,6 +52,7 @@ struct Seen {
     /// Catalogues with a piece that was struck.
     struck: u32,
     longest_list: usize,
+    halves: Halves,
 }
 
 /// One machine for each slot, and what has been seen.
@@ -135,19 +136,24 @@ fn fold(commands: &[u32]) -> ([u32; 64], u32) {
     (cells, skipped)
 }
 
-/// A run of `count` steps in a new room, checked at every step.
-fn run(chance: &mut Chance, sizes: Sizes, habits: Habits, count: u32) -> Seen {
+/// A run of `count` steps in a new room, checked at every step. What is seen is
+/// added to `seen`.
+fn run(chance: &mut Chance, sizes: Sizes, habits: Habits, count: u32, seen: Seen) -> Seen {
     let (servers, drives, slots) = (sizes.servers as u32, sizes.drives as u32, sizes.slots as u32);
     let mut room = vec![0; room_length(servers, drives, slots) as usize];
     assert_eq!(open(&mut room, servers, drives, slots), Ok(()));
     let mut driver = Driver::new(chance, sizes, habits);
     let machines = (0..slots).map(|_| Machine::default()).collect();
-    let mut check = Check { sizes, machines, seen: Seen::default() };
+    let mut check = Check { sizes, machines, seen };
     for _ in 0..count {
         let before = room.clone();
         let next = driver.next_step(chance, &room);
+        let half = decisive_half(&room, sizes, next);
         let answer = step(&mut room, next);
         driver.hear(answer);
+        if let Some(half) = half {
+            check.seen.halves.count_step(sizes.drives, half, answer);
+        }
         assert!(judge(&room) == Some(sizes), "{next:?} left the range");
         if let Answer::Refused(_) = answer {
             assert_eq!(room, before, "{next:?} was refused");
@@ -159,44 +165,42 @@ fn run(chance: &mut Chance, sizes: Sizes, habits: Habits, count: u32) -> Seen {
     check.seen
 }
 
-/// Runs in rooms of several sizes. Answers the sums of what was seen.
-fn simulate(seed: u64, noise: Option<u32>, runs: u32, count: u32) -> Seen {
+/// Rooms of several sizes: servers, drives, slots.
+const ROOMS: [(usize, usize, usize); 10] = [
+    (1, 1, 1),
+    (1, 3, 3),
+    (2, 1, 2),
+    (2, 2, 2),
+    (2, 3, 1),
+    (2, 3, 4),
+    (3, 2, 1),
+    (3, 3, 2),
+    (4, 4, 1),
+    (4, 7, 2),
+];
+
+/// Rooms with an even number of drives.
+const EVEN: [(usize, usize, usize); 6] =
+    [(2, 2, 1), (3, 2, 2), (4, 2, 1), (2, 4, 1), (3, 4, 1), (2, 6, 1)];
+
+/// Runs in each of the rooms, 500 steps each, with habits that `set` has changed.
+fn simulate(seed: u64, rooms: &[(usize, usize, usize)], runs: u32, set: fn(&mut Habits)) -> Seen {
     let mut chance = Chance::new(seed);
-    let mut sum = Seen::default();
-    let rooms = [
-        (1, 1, 1),
-        (1, 3, 3),
-        (2, 1, 2),
-        (2, 2, 2),
-        (2, 3, 1),
-        (2, 3, 4),
-        (3, 2, 1),
-        (3, 3, 2),
-        (4, 4, 1),
-        (4, 7, 2),
-    ];
-    for (servers, drives, slots) in rooms {
+    let mut seen = Seen::default();
+    for &(servers, drives, slots) in rooms {
         for _ in 0..runs {
             let mut habits = Habits::any(&mut chance);
-            habits.noise = noise.unwrap_or(habits.noise);
-            let seen = run(&mut chance, Sizes { servers, drives, slots }, habits, count);
-            sum.steps += seen.steps;
-            sum.committed += seen.committed;
-            sum.again += seen.again;
-            sum.outbid += seen.outbid;
-            sum.failed += seen.failed;
-            sum.refused += seen.refused;
-            sum.struck += seen.struck;
-            sum.longest_list = sum.longest_list.max(seen.longest_list);
+            set(&mut habits);
+            seen = run(&mut chance, Sizes { servers, drives, slots }, habits, 500, seen);
         }
     }
-    println!("{sum:?}");
-    sum
+    println!("{seen:?}");
+    seen
 }
 
 #[test]
 fn servers_that_follow_the_protocol_agree() {
-    let seen = simulate(1, None, 60, 500);
+    let seen = simulate(1, &ROOMS, 60, |_| {});
     assert!(seen.steps == 300_000 && seen.longest_list == 4);
     assert!(seen.committed > 5_000 && seen.again > 2_000);
     assert!(seen.outbid > 2_000 && seen.failed > 1_000 && seen.refused > 10_000);
@@ -205,8 +209,20 @@ fn servers_that_follow_the_protocol_agree() {
 
 #[test]
 fn servers_that_do_anything_agree() {
-    let seen = simulate(2, Some(700), 40, 500);
+    let seen = simulate(2, &ROOMS, 40, |habits| habits.noise = 700);
     assert!(seen.steps == 200_000);
     assert!(seen.committed > 500 && seen.again > 200);
     assert!(seen.outbid > 500 && seen.failed > 1_000 && seen.refused > 10_000);
+}
+
+#[test]
+fn servers_agree_where_half_of_the_drives_goes_off_and_another_half() {
+    let seen = simulate(3, &EVEN, 80, |habits| {
+        habits.half_off = true;
+        habits.switches = 30;
+        habits.failures = habits.failures.max(8);
+    });
+    assert!(seen.steps == 240_000 && seen.halves.least() >= 500);
+    assert!(seen.committed > 5_000 && seen.again > 2_000);
+    assert!(seen.outbid > 2_000 && seen.failed > 1_000);
 }

@@ -1,6 +1,7 @@
-//! The generated inputs: the same from the same seed, and every answer occurs.
+//! The generated inputs: the same from the same seed, every answer occurs, and
+//! half of the drives often decides.
 
-use other::generator::{make_input, Tally};
+use other::generator::{make_input, Halves, Tally};
 use other::rehearse;
 
 #[test]
@@ -20,6 +21,16 @@ fn a_set_has_every_answer() {
     }
     assert_eq!(tally.missing(), Vec::<String>::new());
     assert_eq!(tally.unexpected(), Vec::<String>::new());
+}
+
+#[test]
+fn half_of_the_drives_often_decides() {
+    let mut halves = Halves::default();
+    for index in 0..400 {
+        halves.count(&make_input(1, index, 200));
+    }
+    println!("{}", halves.report());
+    assert!(halves.least() >= 30);
 }
 
 #[test]

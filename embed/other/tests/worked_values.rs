@@ -124,19 +124,70 @@ fn ballots_have_owners_and_a_limit() {
     }
 }
 
+/// The sets of two and of four drives that are a majority, as marks.
+const OF_TWO: [u32; 2] = [0b01, 0b11];
+const OF_FOUR: [u32; 8] = [0b0011, 0b0101, 0b1001, 0b0111, 0b1011, 0b1101, 0b1110, 0b1111];
+
 #[test]
-fn a_majority_is_more_than_half() {
-    for (drives, least) in [(1, 1), (2, 2), (3, 2), (4, 3), (5, 3), (6, 4), (7, 4)] {
+fn half_of_the_drives_counts_where_drive_0_is_in_it() {
+    for (drives, sets) in [(2, &OF_TWO[..]), (4, &OF_FOUR[..])] {
+        for marks in 0..1 << drives {
+            assert_eq!(is_majority(marks, drives), sets.contains(&marks), "{marks:b} of {drives}");
+        }
+    }
+    for (drives, least) in [(1, 1), (3, 2), (5, 3), (7, 4)] {
         for marks in 0..1_u32 << drives {
             assert_eq!(is_majority(marks, drives), marks.count_ones() >= least);
         }
-        let mut room = opened(1, drives as u32, 1);
-        let rejoin = Step::Rejoin { server: 0, slot: 0, number: 1 };
-        for drive in 0..least as u8 {
-            refuse(&mut room, rejoin, 10);
-            take(&mut room, &[Step::Recall { server: 0, slot: 0, drive }]);
+    }
+}
+
+#[test]
+fn two_majorities_share_a_drive() {
+    for drives in 1..=7 {
+        let all = (1_u32 << drives) - 1;
+        let (counting, rest): (Vec<u32>, Vec<u32>) =
+            (0..=all).partition(|&marks| is_majority(marks, drives));
+        // Of a set and the drives that it lacks, exactly one counts.
+        assert!(counting.iter().all(|marks| rest.contains(&(all & !marks))));
+        assert_eq!(counting.len(), rest.len());
+        for one in &counting {
+            assert!(counting.iter().all(|other| one & other != 0));
         }
-        take(&mut room, &[rejoin]);
+    }
+}
+
+#[test]
+fn rejoin_and_finish_ask_for_a_majority() {
+    for drives in 1..=7 {
+        for marks in 0..1_u32 << drives {
+            let mut room = opened(1, drives, 1);
+            let marked = || (0..drives as u8).filter(|drive| marks >> drive & 1 == 1);
+            let recalls: Vec<Step> =
+                marked().map(|drive| Step::Recall { server: 0, slot: 0, drive }).collect();
+            let writes: Vec<Step> =
+                marked().map(|drive| Step::Write { server: 0, slot: 0, drive }).collect();
+            let rejoin = Step::Rejoin { server: 0, slot: 0, number: 1 };
+            let finish = Step::Finish { server: 0, slot: 0 };
+            take(&mut room, &[Step::Offer { server: 0, slot: 0, number: 66_825 }]);
+            take(&mut room, &recalls);
+            // Drive 0 counts for three halves, another for one whole.
+            let counts = 2 * marks.count_ones() + (marks & 1) > drives;
+            if !counts {
+                refuse(&mut room, rejoin, 10);
+                let all = (0..drives as u8).map(|drive| Step::Recall { server: 0, slot: 0, drive });
+                take(&mut room, &all.collect::<Vec<Step>>());
+            }
+            take(&mut room, &[rejoin]);
+            take(&mut room, &writes);
+            if counts {
+                assert_eq!(step(&mut room, finish), Answer::Chosen(66_825));
+                take(&mut room, &writes);
+                assert_eq!(step(&mut room, finish), Answer::Committed(66_825));
+            } else {
+                refuse(&mut room, finish, 10);
+            }
+        }
     }
 }
 

@@ -33,7 +33,8 @@ pub enum Error {
     DriveOff,
     /// 9: the drive was not written in this phase.
     NotWritten,
-    /// 10: no majority of drives.
+    /// 10: no majority of drives. More than half of them is one, and so is
+    /// exactly half with drive 0.
     NoMajority,
     /// 11: the ballot is not above those known.
     NotAbove,
@@ -63,7 +64,10 @@ const TEXTS: [(Error, &str); 15] = [
     (Error::WrongPhase, "the server is in a phase that does not allow this step"),
     (Error::DriveOff, "the drive is off"),
     (Error::NotWritten, "the drive was not written in this phase"),
-    (Error::NoMajority, "no majority of drives was recalled, or written and read"),
+    (
+        Error::NoMajority,
+        "no majority of drives was recalled, or written and read (half of them counts only with drive 0)",
+    ),
     (Error::NotAbove, "the ballot is not above those that the server knows"),
     (Error::NothingOffered, "no command was seen and none is offered"),
     (Error::NoBallotLeft, "the server was outbid and has no ballot left"),

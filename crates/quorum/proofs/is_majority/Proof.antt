@@ -8,8 +8,10 @@ use native.Mathlib.Nat.{lt-of-lt-of-le, mod-eq-of-lt}
 use lib.Count.{ones, ones-le}
 use lib.Dec.{ltb}
 use lib.Pow.{pow-mono, pow-pos}
-use Rattle.quorum.specs.Sets.{majority}
-use Rattle.quorum.proofs.Sizes.{ones-size}
+use Rattle.quorum.specs.Marks.{stands}
+use Rattle.quorum.specs.Sets.{size}
+use Rattle.quorum.proofs.Sizes.{ones-size, first-below}
+use Rattle.quorum.proofs.Majorities.{tied, not-tied}
 use Rattle.quorum.proofs.Shift.{one-shifted}
 use Rattle.quorum.proofs.is_majority.Statement.{statement}
 use Rattle.quorum.proofs.is_majority.Tie as tie
@@ -37,14 +39,33 @@ few c =
     let m : c .before .args .marks % 2 ^ (c .before .args .drives) ≤ c .before .args .marks = native.Mathlib.Nat.mod-le (c .before .args .marks) (2 ^ (c .before .args .drives)) in
     omega arith)
 
-mul-result : tie.Need-mul-result
-mul-result c = omega (arith, few c)
+mul-twice : tie.Need-mul-twice
+mul-twice c = omega (arith, few c)
+
+has-mark-requires : tie.Need-has-mark-requires
+has-mark-requires c κs = search needs
+
+-- what is compared with the drives is twice the size of the set
+twice : (c : tie.Joined1) → 2 * ones (c .if1 .counted) ≡ 2 * size (c .before .args .drives) (stands (c .before .args .marks))
+twice c =
+    let a = c .before .args in
+    ap (λ (x : ℕ). 2 * x) (ap ones (counted c) ∙ ones-size (a .drives) (a .marks))
 
 returns : tie.Need-returns
-unfolding majority
 returns c =
-    let a = c .before .args in
-    ap (λ (x : ℕ). ltb (a .drives) (2 * x)) (ap ones (counted c) ∙ ones-size (a .drives) (a .marks))
+    let j = c .before .before in
+    let a = j .before .args in
+    c .has-mark .ensures
+    ∙ ap (λ (x : ℕ). stands x 0) (counted j)
+    ∙ first-below (a .drives) (a .marks)
+    ∙ sym (tied (a .drives) (stands (a .marks)) (c .before .if2 .taken ∙ twice j))
+
+returns-2 : tie.Need-returns-2
+returns-2 c =
+    let j = c .before in
+    let a = j .before .args in
+    ap (ltb (a .drives)) (twice j)
+    ∙ sym (not-tied (a .drives) (stands (a .marks)) (λ e. c .if2 .left (e ∙ sym (twice j))))
 
 pub is-majority-spec : {M : Type 1} → statement M
-is-majority-spec = tie.close (tie.spec shl-counted rem-counted mul-result returns)
+is-majority-spec = tie.close (tie.spec shl-counted rem-counted mul-twice has-mark-requires returns returns-2)

@@ -24,6 +24,9 @@ pub struct Habits {
     pub turn: u32,
     /// The slots where ballots are near the limit, as marks.
     pub high: u32,
+    /// Whether half of the drives, rounded down, are off from the start, and
+    /// later, now and then, another half.
+    pub half_off: bool,
 }
 
 impl Habits {
@@ -37,6 +40,7 @@ impl Habits {
             bids: chance.one_of(&[0, 2, 10]),
             turn: chance.one_of(&[3, 8, 20, 40, 80]),
             high,
+            half_off: chance.one_in(2),
         }
     }
 }
@@ -47,6 +51,8 @@ pub struct Driver {
     sizes: Sizes,
     habits: Habits,
     pieces: Vec<u32>,
+    /// The off marks that the next steps bring about.
+    wanted: Option<u32>,
     /// The slots, as marks, that each server has given up.
     given_up: [u32; 4],
     /// The turn: the server that acts, its slot, the drive it begins with,
@@ -66,10 +72,12 @@ impl Driver {
         // Few pieces, so that enter, move and strike meet one another.
         let count = chance.from_to(1, 4);
         let pieces = (0..count).map(|_| chance.below(64)).collect();
+        let wanted = habits.half_off.then(|| half_of(chance, sizes.drives));
         Driver {
             sizes,
             habits,
             pieces,
+            wanted,
             given_up: [0; 4],
             server: 0,
             slot: 0,
@@ -83,6 +91,9 @@ impl Driver {
     /// The next step of the run, in the room as it stands.
     pub fn next_step(&mut self, chance: &mut Chance, room: &[u32]) -> Step {
         self.acted = false;
+        if let Some(step) = self.towards_wanted(room) {
+            return step;
+        }
         if chance.per_mille(self.habits.noise) {
             return any_step(chance, room, self.sizes, self.slot, &self.pieces);
         }
@@ -142,10 +153,15 @@ impl Driver {
         let Sizes { servers, drives, .. } = self.sizes;
         let (server, slot) = (self.server as u8, self.slot as u8);
         if own.phase == 0 {
-            if is_majority(own.recalled(self.server, drives), drives) && !chance.one_in(16) {
-                return Step::Rejoin { server, slot, number: self.ballot(chance, own.top) };
+            let recalled = own.recalled(self.server, drives);
+            let rejoin = Step::Rejoin { server, slot, number: self.ballot(chance, own.top) };
+            if is_majority(recalled, drives) && !chance.one_in(16) {
+                return rejoin;
             }
-            return self.recall(room, &own);
+            return match self.usable(room, recalled) {
+                Some(drive) => Step::Recall { server, slot, drive: drive as u8 },
+                None => self.without_drive(chance, room, rejoin),
+            };
         }
         if own.phase == 1 && own.seeninp == 0 && own.offer == 0 && !self.silent {
             return Step::Offer { server, slot, number: good_command(chance, &self.pieces) };
@@ -154,29 +170,19 @@ impl Driver {
             return Step::Bid { server, slot, number: self.ballot(chance, own.own.mbal) };
         }
         let completed = own.completed(self.server, servers, drives);
+        let finish = Step::Finish { server, slot };
         if is_majority(completed, drives) {
-            return Step::Finish { server, slot };
+            return finish;
         }
-        self.write_or_read(room, &own, completed)
-    }
-
-    /// The recall of a drive that was not recalled yet.
-    fn recall(&self, room: &[u32], own: &Server) -> Step {
-        match self.usable(room, own.recalled(self.server, self.sizes.drives)) {
-            Some(drive) => {
-                let (server, slot) = (self.server as u8, self.slot as u8);
-                Step::Recall { server, slot, drive: drive as u8 }
-            }
-            None => self.switch_on(room),
+        match self.usable(room, completed) {
+            Some(drive) => self.write_or_read(&own, drive),
+            None => self.without_drive(chance, room, finish),
         }
     }
 
-    /// Writes the next drive, or reads the next block on one that is written.
-    fn write_or_read(&self, room: &[u32], own: &Server, completed: u32) -> Step {
+    /// Writes a drive, or reads the next block on it where it is written.
+    fn write_or_read(&self, own: &Server, drive: usize) -> Step {
         let (server, slot) = (self.server as u8, self.slot as u8);
-        let Some(drive) = self.usable(room, completed) else {
-            return self.switch_on(room);
-        };
         let unread = (0..self.sizes.servers)
             .find(|&other| other != self.server && own.read >> (4 * drive + other) & 1 == 0);
         match unread {
@@ -184,6 +190,16 @@ impl Driver {
                 Step::Read { server, slot, drive: drive as u8, other: other as u8 }
             }
             _ => Step::Write { server, slot, drive: drive as u8 },
+        }
+    }
+
+    /// The step where no drive is left to use: `tried`, which asks for a
+    /// majority, or one that switches a drive on.
+    fn without_drive(&self, chance: &mut Chance, room: &[u32], tried: Step) -> Step {
+        if chance.one_in(4) {
+            self.switch_on(room)
+        } else {
+            tried
         }
     }
 
@@ -201,8 +217,27 @@ impl Driver {
         Step::DriveOn { drive: lowest as u8 }
     }
 
-    /// Switches a drive. A drive that is off goes on three times in four.
-    fn switch(&self, chance: &mut Chance, room: &[u32]) -> Step {
+    /// Switches the lowest drive that is not as it is wanted.
+    fn towards_wanted(&mut self, room: &[u32]) -> Option<Step> {
+        let differ = self.wanted? ^ room[OFF];
+        if differ == 0 {
+            self.wanted = None;
+            return None;
+        }
+        let drive = differ.trailing_zeros() as u8;
+        let off = room[OFF] >> drive & 1 == 1;
+        Some(if off { Step::DriveOn { drive } } else { Step::DriveOff { drive } })
+    }
+
+    /// Switches a drive. A drive that is off goes on three times in four. In a
+    /// run where half of the drives are off, every other time another half goes.
+    fn switch(&mut self, chance: &mut Chance, room: &[u32]) -> Step {
+        if self.habits.half_off && chance.one_in(2) {
+            self.wanted = Some(half_of(chance, self.sizes.drives));
+            if let Some(step) = self.towards_wanted(room) {
+                return step;
+            }
+        }
         if room[OFF] != 0 && !chance.one_in(4) {
             return self.switch_on(room);
         }
@@ -239,4 +274,13 @@ impl Driver {
     fn server(&self, room: &[u32], slot: usize, server: usize) -> Server {
         Server::load(room, self.sizes.server_at(slot, server))
     }
+}
+
+/// Half of the drives, rounded down, as marks.
+fn half_of(chance: &mut Chance, drives: usize) -> u32 {
+    let mut marks = 0_u32;
+    while marks.count_ones() as usize != drives / 2 {
+        marks |= 1 << chance.place(drives);
+    }
+    marks
 }

@@ -5,15 +5,18 @@
 //! - `noise`: steps of any kind, many of which are refused.
 //! - `inputs`: whole inputs, damaged ones among them.
 //! - `tally`: how often each answer occurs in what rehearse prints.
+//! - `halves`: how often exactly half of the drives decide a step.
 
 mod chance;
 mod driver;
+mod halves;
 mod inputs;
 mod noise;
 mod tally;
 
 pub use chance::Chance;
 pub use driver::{Driver, Habits};
+pub use halves::{decisive_half, Halves};
 pub use inputs::{make_input, SIZES};
 pub use noise::any_step;
 pub use tally::Tally;
