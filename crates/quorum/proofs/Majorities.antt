@@ -1,10 +1,10 @@
 -- What a majority looks at: how many drives of the set exist, and drive 0 where these are exactly half.
 use Prim.Native.Nat.{ℕ, zero, suc, _+_, _*_, _<_}
 use mathlib.Core.Path.{_≡_}
-use mathlib.Core.Bool.{Bool, _&&_, or-false}
+use mathlib.Core.Bool.{Bool, or-false}
 use native.Mathlib.Omega.{arith}
 use lib.Dec.{ltb}
-use borrow.Author.Tests.{eq-eqb, ne-eqb, le-ltb}
+use borrow.Author.Tests.{ne-eqb}
 use Rattle.quorum.specs.Sets.{size, majority}
 use Rattle.quorum.proofs.Sizes.{size-same}
 
@@ -14,11 +14,7 @@ unfolding majority
 majority-same zero f g h = rw (size-same 0 f g h)
 majority-same (suc n) f g h = rw (size-same (suc n) f g h, h 0 (omega arith))
 
--- drive 0 decides a tie, and nothing else
-pub tied : (n : ℕ) (f : ℕ → Bool) → n ≡ 2 * size n f → majority n f ≡ (ltb 0 n && f 0)
-unfolding majority
-tied n f e = rw (le-ltb n (2 * size n f) (omega arith), eq-eqb n (2 * size n f) e)
-
+-- without a tie, their number alone
 pub not-tied : (n : ℕ) (f : ℕ → Bool) → (n ≡ 2 * size n f → ⊥) → majority n f ≡ ltb n (2 * size n f)
 unfolding majority
 not-tied n f e = rw (ne-eqb n (2 * size n f) e) (or-false (ltb n (2 * size n f)))

@@ -158,40 +158,6 @@ fn two_majorities_share_a_drive() {
 }
 
 #[test]
-fn rejoin_and_finish_ask_for_a_majority() {
-    for drives in 1..=7 {
-        for marks in 0..1_u32 << drives {
-            let mut room = opened(1, drives, 1);
-            let marked = || (0..drives as u8).filter(|drive| marks >> drive & 1 == 1);
-            let recalls: Vec<Step> =
-                marked().map(|drive| Step::Recall { server: 0, slot: 0, drive }).collect();
-            let writes: Vec<Step> =
-                marked().map(|drive| Step::Write { server: 0, slot: 0, drive }).collect();
-            let rejoin = Step::Rejoin { server: 0, slot: 0, number: 1 };
-            let finish = Step::Finish { server: 0, slot: 0 };
-            take(&mut room, &[Step::Offer { server: 0, slot: 0, number: 66_825 }]);
-            take(&mut room, &recalls);
-            // Drive 0 counts for three halves, another for one whole.
-            let counts = 2 * marks.count_ones() + (marks & 1) > drives;
-            if !counts {
-                refuse(&mut room, rejoin, 10);
-                let all = (0..drives as u8).map(|drive| Step::Recall { server: 0, slot: 0, drive });
-                take(&mut room, &all.collect::<Vec<Step>>());
-            }
-            take(&mut room, &[rejoin]);
-            take(&mut room, &writes);
-            if counts {
-                assert_eq!(step(&mut room, finish), Answer::Chosen(66_825));
-                take(&mut room, &writes);
-                assert_eq!(step(&mut room, finish), Answer::Committed(66_825));
-            } else {
-                refuse(&mut room, finish, 10);
-            }
-        }
-    }
-}
-
-#[test]
 fn a_server_outbid_takes_its_next_ballot() {
     let mut room = opened(4, 1, 1);
     put_block(&mut room, 0, 2, [7, 0, 0]);

@@ -2,16 +2,18 @@
 use borrow.Author.Needs.{needs}
 use native.Mathlib.Omega.{arith}
 use mathlib.Core.Path.{_≡_, _∙_, sym, ap}
+use mathlib.Core.Bool.{Bool, _&&_}
 use mathlib.Core.Logic.{⊎-elim}
 use Prim.Native.Nat.{ℕ, _^_, _*_, _%_, _<_, _≤_}
 use native.Mathlib.Nat.{lt-of-lt-of-le, mod-eq-of-lt}
 use lib.Count.{ones, ones-le}
 use lib.Dec.{ltb}
 use lib.Pow.{pow-mono, pow-pos}
+use borrow.Author.Tests.{eq-eqb, le-ltb}
 use Rattle.quorum.specs.Marks.{stands}
-use Rattle.quorum.specs.Sets.{size}
+use Rattle.quorum.specs.Sets.{size, majority}
 use Rattle.quorum.proofs.Sizes.{ones-size, first-below}
-use Rattle.quorum.proofs.Majorities.{tied, not-tied}
+use Rattle.quorum.proofs.Majorities.{not-tied}
 use Rattle.quorum.proofs.Shift.{one-shifted}
 use Rattle.quorum.proofs.is_majority.Statement.{statement}
 use Rattle.quorum.proofs.is_majority.Tie as tie
@@ -50,6 +52,11 @@ twice : (c : tie.Joined1) → 2 * ones (c .if1 .counted) ≡ 2 * size (c .before
 twice c =
     let a = c .before .args in
     ap (λ (x : ℕ). 2 * x) (ap ones (counted c) ∙ ones-size (a .drives) (a .marks))
+
+-- drive 0 decides a tie, and nothing else
+tied : (n : ℕ) (f : ℕ → Bool) → n ≡ 2 * size n f → majority n f ≡ (ltb 0 n && f 0)
+unfolding majority
+tied n f e = rw (le-ltb n (2 * size n f) (omega arith), eq-eqb n (2 * size n f) e)
 
 returns : tie.Need-returns
 returns c =
