@@ -1,5 +1,5 @@
 -- The machine's Choose is read off any committed answer. On every row only a Finish commits, so it is 01's: a committed
--- Finish makes Choose(p) in its slot, and no other step makes one.
+-- Finish makes Choose(p) in its slot, and no other call makes one.
 use Prim.Native.Nat.{ℕ}
 use mathlib.Core.Path.{_≡_, refl, _∙_, sym, ap, subst}
 use mathlib.Core.Bool.{true, true≢false, cond}
@@ -13,20 +13,21 @@ use Rattle.state.specs.declared.Step.the-variants.{Finish}
 use Rattle.state.specs.Answers.{codeOf}
 use Rattle.room.specs.Step.{answered}
 use Rattle.step_laws.proofs.Commits.{only-finish}
-use Rattle.history.specs.Run.{Move, Chooses, Rests, committed, moveOf, WhenChooses}
+use Rattle.history.specs.Calls.{Call, Steps, eventOf}
+use Rattle.history.specs.Run.{Move, Chooses, Rests, committed, moveOf, moveIn, WhenChooses}
 use Rattle.history.proofs.Choosers.{chooses-map, tested, chooser}
 
 -- a Finish that commits chooses, in its slot
 pub finish-chooses
     : (t p : ℕ) (cells : List ℕ) → committed (answered cells (Finish p t)) ≡ true
-    → moveOf t (Finish p t) (answered cells (Finish p t)) ≡ Chooses p
+    → moveIn t (eventOf cells (Steps (Finish p t))) ≡ Chooses p
 unfolding moveOf
 finish-chooses t p cells e = rw (eq-eqb t t refl, e) refl
 
--- the step is a Finish of server p in slot t, and its answer is committed
-pub record ByFinish (t : ℕ) (cells : List ℕ) (st : Step) (p : ℕ) : Type 0 where
-  pub step : st ≡ Finish p t
-  pub commits : committed (answered cells st) ≡ true
+-- the call is a Finish of server p in slot t, and its answer is committed
+pub record ByFinish (t : ℕ) (cells : List ℕ) (c : Call) (p : ℕ) : Type 0 where
+  pub call : c ≡ Steps (Finish p t)
+  pub commits : committed (answered cells (Finish p t)) ≡ true
 
 finished : (t p s : ℕ) (a : Answer) → WhenChooses (moveOf t (Finish p s) a) (λ q. Finish p s ≡ Finish q t)
 unfolding moveOf
@@ -34,18 +35,21 @@ finished t p s a =
     tested (eqb s t) (cond (committed a) (Chooses p) Rests) _
     (λ e. tested (committed a) (Chooses p) _ (λ c. ap (Finish p) (eqb-true s t e)))
 
-by-finish : (t : ℕ) (cells : List ℕ) (st : Step) → WhenChooses (moveOf t st (answered cells st)) (ByFinish t cells st)
-by-finish t cells st =
+step-finishes : (t : ℕ) (cells : List ℕ) (st : Step) → WhenChooses (moveOf t st (answered cells st)) (ByFinish t cells (Steps st))
+step-finishes t cells st =
     let a = answered cells st in
     let m = moveOf t st a in
     by-test (committed a)
     (λ e.
     let f = only-finish cells st (eqb-true (codeOf a) 3 e) in
     let is = subst (λ (x : Step). WhenChooses (moveOf t x a) (λ q. x ≡ Finish q t)) (sym (f .is)) (finished t (f .server) (f .slot) a) in
-    chooses-map m _ _ (λ q s. record { step = s; commits = e }) is)
+    chooses-map m _ _
+    (λ q s. record { call = ap Steps s; commits = subst (λ (x : Step). committed (answered cells x) ≡ true) s e }) is)
     (λ e. chooses-map m _ _ (λ q c. absurd (true≢false (sym (c .by) ∙ e))) (chooser t st a))
 
+by-finish : (t : ℕ) (cells : List ℕ) (c : Call) → WhenChooses (moveIn t (eventOf cells c)) (ByFinish t cells c)
+by-finish t cells (Steps st) = step-finishes t cells st
+
 -- nothing else chooses
-pub choose-is-finish
-    : (t p : ℕ) (cells : List ℕ) (st : Step) → moveOf t st (answered cells st) ≡ Chooses p → ByFinish t cells st p
-choose-is-finish t p cells st e = subst (λ (m : Move). WhenChooses m (ByFinish t cells st)) e (by-finish t cells st)
+pub choose-is-finish : (t p : ℕ) (cells : List ℕ) (c : Call) → moveIn t (eventOf cells c) ≡ Chooses p → ByFinish t cells c p
+choose-is-finish t p cells c e = subst (λ (m : Move). WhenChooses m (ByFinish t cells c)) e (by-finish t cells c)

@@ -1,4 +1,5 @@
 -- Why the room follows the one-value machine: one slot, one step, the whole list.
+pub mod Always
 pub mod Firsts
 pub mod SlotMoves
 pub mod StepMoves

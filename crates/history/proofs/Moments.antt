@@ -1,5 +1,5 @@
--- A moment of a run: the cells are a room in range, and each slot is seen as one that its past explains. A step leads from
--- a moment to the next, and every slot's machine makes the move that is read off the step and its answer.
+-- A moment of a run: the cells are a room in range, and each slot is seen as one that its past explains. A call leads from
+-- a moment to the next, and every slot's machine makes the move that is read off the call and its answer.
 use Prim.Native.Nat.{ℕ, _<_}
 use mathlib.Core.Path.{_≡_, _∙_, sym, ap, subst}
 use mathlib.Core.Bool.{true, cond}
@@ -19,8 +19,9 @@ use Rattle.synod.proofs.Invariant.{Invariant}
 use Rattle.synod.proofs.Kept.{kept}
 use Rattle.synod.proofs.Places.{in-view}
 use Rattle.layout.specs.Places.{Fit}
-use Rattle.layout.specs.Cells.{limitsOf, offOf}
+use Rattle.layout.specs.Cells.{limitsOf, offOf, sizesOf}
 use Rattle.room.specs.declared.effect.Effect.{Effect}
+use Rattle.room.specs.declared.effect.Effect.the-variants.{Refused}
 use Rattle.room.specs.Judge.{seen, effectOf, judged, answerOf}
 use Rattle.room.specs.Step.{settled, answered, stepped}
 use Rattle.room.proofs.Checks.{by-checks}
@@ -29,8 +30,9 @@ use Rattle.step_laws.proofs.Slots.{afterAt}
 use Rattle.step_laws.proofs.StoresKeep.{Whole}
 use Rattle.step_laws.proofs.StepKeeps.{effect-kept}
 use Rattle.step_laws.proofs.SlotTie.{slot-tie}
-use Rattle.history.specs.Run.{Rests, moveOf, WhenChooses}
-use Rattle.history.proofs.SlotMoves.{rests}
+use Rattle.history.specs.Calls.{Call, Steps, Event, eventOf, called}
+use Rattle.history.specs.Run.{Move, Rests, moveOf, moveIn, outputIn, outputBy, WhenChooses}
+use Rattle.history.proofs.SlotMoves.{Moves, rests}
 use Rattle.step_laws.proofs.Lowest.{answerBy}
 use Rattle.history.proofs.StepMoves.{MovesBy, concerned}
 use Rattle.history.proofs.Answers.{refused-rests, unconcerned, answer-tie}
@@ -41,13 +43,20 @@ pub record Moment (limits : List ℕ) (z : Sizes) (cells : List ℕ) (g : ℕ �
   pub alike : (t : ℕ) → t < z .slots → Alike (configOf z) (σ t) (seen z cells t)
   pub holds : (t : ℕ) → t < z .slots → Invariant (configOf z) (g t) (σ t)
 
--- the moment after a step with this answer
-pub record Next (limits : List ℕ) (z : Sizes) (g : ℕ → Ghost) (σ : ℕ → Slot) (st : Step) (a : Answer) (cells : List ℕ) : Type 0 where
+-- the next moment, to which each slot's machine makes a move, with an output
+pub record Next (limits : List ℕ) (z : Sizes) (g : ℕ → Ghost) (σ : ℕ → Slot) (move : ℕ → Move) (out : ℕ → ℕ) (cells : List ℕ) : Type 0 where
   pub ghosts : ℕ → Ghost
   pub slots : ℕ → Slot
   pub moment : Moment limits z cells ghosts slots
-  pub moves : (t : ℕ) → t < z .slots → MovesBy t (g t) (σ t) st a (ghosts t) (slots t)
-  pub within : (t : ℕ) → WhenChooses (moveOf t st a) (λ p. p < z .servers)
+  pub moves : (t : ℕ) → t < z .slots → Moves (g t) (σ t) (move t) (out t) (ghosts t) (slots t)
+  pub within : (t : ℕ) → WhenChooses (move t) (λ p. p < z .servers)
+
+-- the moment after a step with this answer, and after an event
+abbrev AfterStep : List ℕ → Sizes → (ℕ → Ghost) → (ℕ → Slot) → Step → Answer → List ℕ → Type 0
+AfterStep limits z g σ st a cells = Next limits z g σ (λ t. moveOf t st a) (λ t. outputIn (moveOf t st a) a) cells
+
+abbrev pub After : List ℕ → Sizes → (ℕ → Ghost) → (ℕ → Slot) → Event → List ℕ → Type 0
+After limits z g σ e cells = Next limits z g σ (λ t. moveIn t e) (λ t. outputBy t e) cells
 
 fits-of : (z : Sizes) → Fit z → Fits (configOf z)
 fits-of z f = record { servers = f .servers; drives = f .drives }
@@ -102,7 +111,7 @@ module _ (limits : List ℕ) (z : Sizes) (cells : List ℕ) (g : ℕ → Ghost) 
 
   effect-next
       : (st : Step) → placesFit z st ≡ true → commandFits limits st ≡ true
-      → Next limits z g σ st (answerOf (effectOf z cells st)) (settled z cells (effectOf z cells st))
+      → AfterStep limits z g σ st (answerOf (effectOf z cells st)) (settled z cells (effectOf z cells st))
   effect-next st h k =
       record {
         ghosts = ghostAfter st;
@@ -121,7 +130,7 @@ module _ (limits : List ℕ) (z : Sizes) (cells : List ℕ) (g : ℕ → Ghost) 
             chooses-map (moveOf t st (answerOf (effectOf z cells st))) _ _ (λ p c. c .within z (in-view z st h)) (chooser t st (answerOf (effectOf z cells st)));
       }
 
-  refused-next : (st : Step) (n : ℕ) → Next limits z g σ st (answer.Refused n) cells
+  refused-next : (st : Step) (n : ℕ) → AfterStep limits z g σ st (answer.Refused n) cells
   refused-next st n =
       record {
         ghosts = g;
@@ -131,18 +140,32 @@ module _ (limits : List ℕ) (z : Sizes) (cells : List ℕ) (g : ℕ → Ghost) 
         within = λ t. rw (refused-rests t st n) tt;
       }
 
--- a step leads from a moment to the next
-pub next
-    : (z : Sizes) (cells : List ℕ) (g : ℕ → Ghost) (σ : ℕ → Slot) → Moment (limitsOf cells) z cells g σ → (st : Step)
-    → Next (limitsOf cells) z g σ st (answered cells st) (stepped cells st)
-unfolding answered stepped
-next z cells g σ now st =
-    let same = now .whole .sizes in
-    subst (λ (y : Sizes). Next (limitsOf cells) z g σ st (answerOf (judged cells st)) (settled y cells (judged cells st))) (sym same)
-    (by-checks cells st (λ (e : Effect). Next (limitsOf cells) z g σ st (answerOf e) (settled z cells e))
-    (λ a. unfold settled in refused-next (limitsOf cells) z cells g σ now st 3)
-    (λ a b. unfold settled in refused-next (limitsOf cells) z cells g σ now st 4)
-    (λ a b c. unfold settled in refused-next (limitsOf cells) z cells g σ now st 5)
-    (λ a b c.
-    subst (λ (y : Sizes). Next (limitsOf cells) z g σ st (answerOf (effectOf y cells st)) (settled z cells (effectOf y cells st))) (sym same)
-    (effect-next (limitsOf cells) z cells g σ now st (ap (λ (y : Sizes). placesFit y st) (sym same) ∙ b) c)))
+module _ (z : Sizes) (cells : List ℕ) (g : ℕ → Ghost) (σ : ℕ → Slot) (now : Moment (limitsOf cells) z cells g σ) where
+  -- what an effect leads to
+  abbrev Leads : Step → Effect → Type 0
+  Leads st e = AfterStep (limitsOf cells) z g σ st (answerOf e) (settled z cells e)
+
+  leads-refused : (st : Step) (n : ℕ) → Leads st (Refused n)
+  unfolding settled
+  leads-refused st n = refused-next (limitsOf cells) z cells g σ now st n
+
+  leads-judged : (st : Step) → Leads st (judged cells st)
+  leads-judged st =
+      let same = now .whole .sizes in
+      by-checks cells st (Leads st)
+      (λ a. leads-refused st 3)
+      (λ a b. leads-refused st 4)
+      (λ a b c. leads-refused st 5)
+      (λ a b c.
+      subst (λ (y : Sizes). Leads st (effectOf y cells st)) (sym same)
+      (effect-next (limitsOf cells) z cells g σ now st (ap (λ (y : Sizes). placesFit y st) (sym same) ∙ b) c))
+
+  -- the effect is stored by the room's own sizes
+  stored : (st : Step) (e : Effect) → Leads st e → AfterStep (limitsOf cells) z g σ st (answerOf e) (settled (sizesOf cells) cells e)
+  stored st e l =
+      subst (λ (y : Sizes). AfterStep (limitsOf cells) z g σ st (answerOf e) (settled y cells e)) (sym (now .whole .sizes)) l
+
+  -- a call leads from a moment to the next
+  pub next : (c : Call) → After (limitsOf cells) z g σ (eventOf cells c) (called cells c)
+  unfolding answered stepped outputBy
+  next (Steps st) = stored st (judged cells st) (leads-judged st)

@@ -4,12 +4,11 @@ use Prim.Native.Nat.{ℕ, _<_}
 use mathlib.Core.List.{List, [], _∷_, List·Memᴰ}
 use mathlib.Core.Path.{_≡_}
 use Rattle.state.specs.declared.Sizes.{Sizes}
-use Rattle.state.specs.declared.Step.{Step}
 use Rattle.state.specs.Server.{offerOf, outputOf}
 use Rattle.synod.specs.Slot.{updated}
 use Rattle.layout.specs.Cells.{serverOf}
-use Rattle.room.specs.Step.{answered, stepped}
-use Rattle.history.specs.Run.{Move, Offers, Chooses, Fails, Rests, moveOf}
+use Rattle.history.specs.Calls.{Call, eventOf, called}
+use Rattle.history.specs.Run.{Move, Offers, Chooses, Fails, Rests, moveIn}
 
 -- each server's offer and output, the commands given, and the one chosen
 pub record Machine : Type 0 where
@@ -18,7 +17,7 @@ pub record Machine : Type 0 where
   pub given : List ℕ
   pub chosen : ℕ
 
--- before the first step
+-- before the first call
 abbrev pub atFirst : Machine
 atFirst = record { offers = λ p. 0; outputs = λ p. 0; given = []; chosen = 0 }
 
@@ -56,11 +55,11 @@ pub record Equal (z : Sizes) (t : ℕ) (m : Machine) (cells : List ℕ) : Type 0
   pub offers : (p : ℕ) → p < z .servers → offerOf (serverOf z cells t p) ≡ m .offers p
   pub outputs : (p : ℕ) → p < z .servers → outputOf (serverOf z cells t p) ≡ m .outputs p
 
--- One path of machine states for the whole list of steps: each step and its answer make a move, and at the start and
--- after each step the offers and outputs of slot t equal the machine's.
-pub data Follows (z : Sizes) (t : ℕ) : Machine → List ℕ → List Step → Type 0 where
+-- One path of machine states for the whole list of calls: each call and its answer make a move, and at the start and
+-- after each call the offers and outputs of slot t equal the machine's.
+pub data Follows (z : Sizes) (t : ℕ) : Machine → List ℕ → List Call → Type 0 where
   ends : {m : Machine} {cells : List ℕ} → Equal z t m cells → Follows z t m cells []
   goes
-      : {m n : Machine} {cells : List ℕ} {st : Step} {sts : List Step} → Equal z t m cells
-      → Makes (moveOf t st (answered cells st)) m n → Follows z t n (stepped cells st) sts
-      → Follows z t m cells (st ∷ sts)
+      : {m n : Machine} {cells : List ℕ} {c : Call} {cs : List Call} → Equal z t m cells
+      → Makes (moveIn t (eventOf cells c)) m n → Follows z t n (called cells c) cs
+      → Follows z t m cells (c ∷ cs)

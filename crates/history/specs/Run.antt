@@ -1,4 +1,4 @@
--- A run is its history: the list of steps with their answers (SPEC, "The one-value machine"). What is told of a run is
+-- A run is its history: the list of calls with their answers (SPEC, "The one-value machine"). What is told of a run is
 -- read off this list, never off the cells; what it says of outputs is compared with them at the end.
 use Prim.Native.Nat.{ℕ}
 use mathlib.Core.Bool.{Bool, not, cond}
@@ -12,26 +12,22 @@ use Rattle.state.specs.Answers.{codeOf, numberOf}
 use Rattle.state.specs.Server.{outputOf}
 use Rattle.state.specs.View.{Deed, Brings, Stores, Alone, View, AtSlot, AtServer, AtDrive, viewOf}
 use Rattle.layout.specs.Cells.{serverOf}
-use Rattle.room.specs.Step.{answered, stepped}
+use Rattle.history.specs.Calls.{Call, Event, eventOf, called, asStep}
 
-pub record Event : Type 0 where
-  pub step : Step
-  pub answer : Answer
-
--- the cells after a list of steps
-unfoldable pub ran : List ℕ → List Step → List ℕ
+-- the cells after a list of calls
+unfoldable pub ran : List ℕ → List Call → List ℕ
 ran cells [] = cells
-ran cells (st ∷ sts) = ran (stepped cells st) sts
+ran cells (c ∷ cs) = ran (called cells c) cs
 
--- the steps with their answers, in order
-unfoldable pub history : List ℕ → List Step → List Event
+-- the calls with their answers, in order
+unfoldable pub history : List ℕ → List Call → List Event
 history cells [] = []
-history cells (st ∷ sts) = record { step = st; answer = answered cells st } ∷ history (stepped cells st) sts
+history cells (c ∷ cs) = eventOf cells c ∷ history (called cells c) cs
 
--- at the start and after each step
-unfoldable pub Always : (List ℕ → Type 0) → List ℕ → List Step → Type 0
+-- at the start and after each call
+unfoldable pub Always : (List ℕ → Type 0) → List ℕ → List Call → Type 0
 Always P cells [] = P cells
-Always P cells (st ∷ sts) = P cells × Always P (stepped cells st) sts
+Always P cells (c ∷ cs) = P cells × Always P (called cells c) cs
 
 -- the words of an answer
 abbrev pub accepted : Answer → Bool
@@ -61,6 +57,10 @@ moveAt t (AtDrive d on) a = Rests
 unfoldable pub moveOf : ℕ → Step → Answer → Move
 moveOf t st a = moveAt t (viewOf st) a
 
+-- the move of an event
+abbrev pub moveIn : ℕ → Event → Move
+moveIn t e = asStep (moveOf t) Rests e
+
 -- the command with which an answer committed, by the move; 0 where it did not
 abbrev pub outputIn : Move → Answer → ℕ
 outputIn (Offers p v) a = 0
@@ -69,7 +69,7 @@ outputIn (Fails p) a = 0
 outputIn Rests a = 0
 
 unfoldable pub outputBy : ℕ → Event → ℕ
-outputBy t e = outputIn (moveOf t (e .step) (e .answer)) (e .answer)
+outputBy t e = asStep (λ st a. outputIn (moveOf t st a) a) 0 e
 
 -- the first that is not 0
 abbrev pub orElse : ℕ → ℕ → ℕ
@@ -99,19 +99,17 @@ WhenChooses Rests A = Unit {0}
 unfoldable pub OfferedEarlier : ℕ → List ℕ → List Event → Type 0
 OfferedEarlier t seen [] = Unit {0}
 OfferedEarlier t seen (e ∷ h) =
-    WhenChooses (moveOf t (e .step) (e .answer)) (λ p. List·Memᴰ (outputBy t e) seen)
-    × OfferedEarlier t (given (moveOf t (e .step) (e .answer)) seen) h
+    WhenChooses (moveIn t e) (λ p. List·Memᴰ (outputBy t e) seen) × OfferedEarlier t (given (moveIn t e) seen) h
 
 -- every committed answer in the slot is with the command v, which is not 0
 unfoldable pub AllCommit : ℕ → ℕ → List Event → Type 0
 AllCommit t v [] = Unit {0}
 AllCommit t v (e ∷ h) =
-    WhenChooses (moveOf t (e .step) (e .answer)) (λ p. (outputBy t e ≡ v) × (v ≡ 0 → ⊥)) × AllCommit t v h
+    WhenChooses (moveIn t e) (λ p. (outputBy t e ≡ v) × (v ≡ 0 → ⊥)) × AllCommit t v h
 
 -- right after every committed answer in the slot, its server's output there is the answer's command
-unfoldable pub CommitsOutput : Sizes → ℕ → List ℕ → List Step → Type 0
+unfoldable pub CommitsOutput : Sizes → ℕ → List ℕ → List Call → Type 0
 CommitsOutput z t cells [] = Unit {0}
-CommitsOutput z t cells (st ∷ sts) =
-    WhenChooses (moveOf t st (answered cells st))
-    (λ p. outputOf (serverOf z (stepped cells st) t p) ≡ numberOf (answered cells st))
-    × CommitsOutput z t (stepped cells st) sts
+CommitsOutput z t cells (c ∷ cs) =
+    WhenChooses (moveIn t (eventOf cells c)) (λ p. outputOf (serverOf z (called cells c) t p) ≡ outputBy t (eventOf cells c))
+    × CommitsOutput z t (called cells c) cs

@@ -7,15 +7,16 @@ use native.Mathlib.Omega.{arith}
 use lib.ListN.{getD, take, drop}
 use lib.Seq.{take-add}
 use Rattle.state.specs.declared.Sizes.{Sizes}
-use Rattle.state.specs.declared.Step.{Step}
 use Rattle.room.specs.Open.{openRefusal, opening, opened}
+use Rattle.history.specs.Calls.{Call}
 use Rattle.history.specs.Run.{history, Always}
+use Rattle.history.proofs.Always.{always-map}
 use Rattle.catalogue.specs.Fold.{Entries, folded, start}
 use Rattle.catalogue.proofs.FoldLaws.{fold-append}
 use Rattle.catalogue.proofs.StruckLaws.{struck-stays}
 use Rattle.register.specs.OneHistory.{commandsOf, AllShow}
 use Rattle.register.specs.NeverAgain.{StaysStruck, NeverAgain}
-use Rattle.register.proofs.Theorem.{always-map, one-history}
+use Rattle.register.proofs.Theorem.{one-history}
 
 -- the result of the first k commands of a list goes on from that of its first j
 first-more
@@ -38,13 +39,13 @@ stays z commands room other a b p q h l out lent exact whole less piece e =
     ∙ ap (λ (n : Entries). cell (n .cells)) (first-more commands (s .k) (t .k) more)
     ∙ struck-stays first (take (t .k - s .k) (drop (s .k) commands)) piece (ap cell (sym (s .cells)) ∙ e)
 
--- from a room just opened, for every list of steps
+-- from a room just opened, for every list of calls
 pub never-again
-    : (z : Sizes) (row : List ℕ) → openRefusal (opening z row) ≡ 0 → (steps : List Step) → NeverAgain z (opened z row) steps
-never-again z row e steps =
+    : (z : Sizes) (row : List ℕ) → openRefusal (opening z row) ≡ 0 → (calls : List Call) → NeverAgain z (opened z row) calls
+never-again z row e calls =
     let cells = opened z row in
-    let Show : List ℕ → Type 0 = AllShow z (commandsOf z (history cells steps)) in
-    let shown = one-history z row e steps .catalogues in
-    always-map Show (λ room. Always (StaysStruck z room) cells steps)
-    (λ room a. always-map Show (StaysStruck z room) (λ other. stays z _ room other a) cells steps shown)
-    cells steps shown
+    let Show : List ℕ → Type 0 = AllShow z (commandsOf z (history cells calls)) in
+    let shown = one-history z row e calls .catalogues in
+    always-map Show (λ room. Always (StaysStruck z room) cells calls)
+    (λ room a. always-map Show (StaysStruck z room) (λ other. stays z _ room other a) cells calls shown)
+    cells calls shown

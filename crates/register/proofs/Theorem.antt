@@ -1,20 +1,20 @@
--- Demand 3: from a room just opened, for all sizes that fit, every old content of the row and every list of steps.
+-- Demand 3: from a room just opened, for all sizes that fit, every old content of the row and every list of calls.
 use Prim.Native.Nat.{ℕ, _<_}
 use mathlib.Core.Path.{_≡_, refl, _∙_, sym, ap, subst}
-use mathlib.Core.List.{List, [], _∷_}
+use mathlib.Core.List.{List}
 use native.Mathlib.Omega.{arith}
 use lib.ListN.{length, take, length-take}
 use Rattle.state.specs.declared.Sizes.{Sizes}
-use Rattle.state.specs.declared.Step.{Step}
 use Rattle.synod.proofs.Machine.{blankSlot}
 use Rattle.synod.proofs.Past.{noGhost}
 use Rattle.layout.specs.Places.{Fit}
 use Rattle.layout.proofs.PlaceLaws.{fit-of}
 use Rattle.layout.specs.Cells.{limitsOf}
 use Rattle.room.specs.Open.{openRefusal, opening, opened, openedCells}
-use Rattle.room.specs.Step.{stepped}
 use Rattle.room.proofs.OpenLaws.{accepted}
-use Rattle.history.specs.Run.{history, Always, firstOutput}
+use Rattle.history.specs.Calls.{Call}
+use Rattle.history.specs.Run.{history, firstOutput}
+use Rattle.history.proofs.Always.{always-map}
 use Rattle.history.proofs.Opened.{opens}
 use Rattle.history.proofs.Runs.{follows, offered-earlier, all-commit, commits-output, Shown, shown}
 use Rattle.catalogue.specs.Fold.{folded, start}
@@ -59,31 +59,25 @@ module _ (z : Sizes) (first : ℕ → ℕ) (room : List ℕ) (s : Shown z first 
             ∙ ap (λ (l : List ℕ). folded start l .cells) prefix;
       }
 
--- what holds at every moment may be weakened at every moment
-pub always-map : (P Q : List ℕ → Type 0) → ((room : List ℕ) → P room → Q room) → (cells : List ℕ) (steps : List Step) → Always P cells steps → Always Q cells steps
-unfolding Always
-always-map P Q f cells [] a = f cells a
-always-map P Q f cells (st ∷ sts) a = (f cells (a .0), always-map P Q f (stepped cells st) sts (a .1))
-
-from-opened : (z : Sizes) → Fit z → (steps : List Step) → OneHistory z (openedCells z) steps
+from-opened : (z : Sizes) → Fit z → (calls : List Call) → OneHistory z (openedCells z) calls
 unfolding commandsOf
-from-opened z fit steps =
+from-opened z fit calls =
     let cells = openedCells z in
     let now = opens (limitsOf cells) z fit in
-    let first : ℕ → ℕ = λ t. firstOutput t (history cells steps) in
+    let first : ℕ → ℕ = λ t. firstOutput t (history cells calls) in
     record {
-      machines = follows z cells (λ t. noGhost) (λ t. blankSlot) now steps;
+      machines = follows z cells (λ t. noGhost) (λ t. blankSlot) now calls;
       catalogues =
-          always-map (Shown z first) (AllShow z (leading first 0 (z .slots))) (shows z first) cells steps
-          (shown z cells (λ t. noGhost) (λ t. blankSlot) now steps first (λ t h. refl));
-      outputs = commits-output z cells (λ t. noGhost) (λ t. blankSlot) now steps;
-      agreed = λ t h. all-commit z cells (λ t. noGhost) (λ t. blankSlot) now steps t h (first t) refl;
-      offered = offered-earlier z cells (λ t. noGhost) (λ t. blankSlot) now steps;
+          always-map (Shown z first) (AllShow z (leading first 0 (z .slots))) (shows z first) cells calls
+          (shown z cells (λ t. noGhost) (λ t. blankSlot) now calls first (λ t h. refl));
+      outputs = commits-output z cells (λ t. noGhost) (λ t. blankSlot) now calls;
+      agreed = λ t h. all-commit z cells (λ t. noGhost) (λ t. blankSlot) now calls t h (first t) refl;
+      offered = offered-earlier z cells (λ t. noGhost) (λ t. blankSlot) now calls;
     }
 
 -- DEMAND 3
 pub one-history
-    : (z : Sizes) (row : List ℕ) → openRefusal (opening z row) ≡ 0 → (steps : List Step) → OneHistory z (opened z row) steps
-one-history z row e steps =
+    : (z : Sizes) (row : List ℕ) → openRefusal (opening z row) ≡ 0 → (calls : List Call) → OneHistory z (opened z row) calls
+one-history z row e calls =
     let o = accepted z row e in
-    subst (λ (cells : List ℕ). OneHistory z cells steps) (sym (o .room)) (from-opened z (fit-of z (o .fits)) steps)
+    subst (λ (cells : List ℕ). OneHistory z cells calls) (sym (o .room)) (from-opened z (fit-of z (o .fits)) calls)

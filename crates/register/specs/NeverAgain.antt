@@ -5,7 +5,7 @@ use mathlib.Core.List.{List}
 use mathlib.Core.Path.{_≡_}
 use lib.ListN.{length, getD}
 use Rattle.state.specs.declared.Sizes.{Sizes}
-use Rattle.state.specs.declared.Step.{Step}
+use Rattle.history.specs.Calls.{Call}
 use Rattle.history.specs.Run.{Always}
 use Rattle.catalogue.specs.Entry.{struck}
 use Rattle.catalogue.specs.Fold.{pieces}
@@ -21,5 +21,5 @@ StaysStruck z room other =
     → (piece : ℕ) → getD (catalogueCells room p out) piece 0 ≡ struck → getD (catalogueCells other q lent) piece 0 ≡ struck
 
 -- at any two moments of a run
-abbrev pub NeverAgain : Sizes → List ℕ → List Step → Type 0
-NeverAgain z cells steps = Always (λ room. Always (StaysStruck z room) cells steps) cells steps
+abbrev pub NeverAgain : Sizes → List ℕ → List Call → Type 0
+NeverAgain z cells calls = Always (λ room. Always (StaysStruck z room) cells calls) cells calls

@@ -1,11 +1,11 @@
--- One history (SPEC, "The one-value machine", "The catalogue"): demand 3 of 01, as one claim about a whole list of steps.
+-- One history (SPEC, "The one-value machine", "The catalogue"): demand 3 of 01, as one claim about a whole list of calls.
 use Prim.Native.Nat.{ℕ, _<_, _≤_}
 use mathlib.Core.List.{List, []}
 use mathlib.Core.Path.{_≡_}
 use lib.ListN.{length, take}
 use Rattle.state.specs.declared.Sizes.{Sizes}
-use Rattle.state.specs.declared.Step.{Step}
-use Rattle.history.specs.Run.{Event, history, Always, firstOutput, OfferedEarlier, AllCommit, CommitsOutput}
+use Rattle.history.specs.Calls.{Call, Event}
+use Rattle.history.specs.Run.{history, Always, firstOutput, OfferedEarlier, AllCommit, CommitsOutput}
 use Rattle.history.specs.Machine.{atFirst, Follows}
 use Rattle.catalogue.specs.Fold.{pieces, folded, start}
 use Rattle.catalogue.specs.Outputs.{leading, outputsOf}
@@ -31,15 +31,15 @@ pub record Shows (z : Sizes) (commands room : List ℕ) (p : ℕ) (out : List �
 abbrev pub AllShow : Sizes → List ℕ → List ℕ → Type 0
 AllShow z commands room = (p : ℕ) → p < z .servers → (out : List ℕ) → length out ≡ pieces → Shows z commands room p out
 
-pub record OneHistory (z : Sizes) (cells : List ℕ) (steps : List Step) : Type 0 where
-  -- every server's offer and output equal the machine's after every step: in each slot one path of machine states serves
+pub record OneHistory (z : Sizes) (cells : List ℕ) (calls : List Call) : Type 0 where
+  -- every server's offer and output equal the machine's after every call: in each slot one path of machine states serves
   -- the entire list
-  pub machines : (t : ℕ) → t < z .slots → Follows z t atFirst cells steps
+  pub machines : (t : ℕ) → t < z .slots → Follows z t atFirst cells calls
   -- the run has one list of commands, and at any moment every catalogue takes the first of them
-  pub catalogues : Always (AllShow z (commandsOf z (history cells steps))) cells steps
+  pub catalogues : Always (AllShow z (commandsOf z (history cells calls))) cells calls
   -- the answers agree with the cells: right after a committed answer its command is that server's output in that slot
-  pub outputs : (t : ℕ) → t < z .slots → CommitsOutput z t cells steps
+  pub outputs : (t : ℕ) → t < z .slots → CommitsOutput z t cells calls
   -- and with each other: every committed answer in a slot is with its one command
-  pub agreed : (t : ℕ) → t < z .slots → AllCommit t (firstOutput t (history cells steps)) (history cells steps)
-  -- every command was offered in its slot, at an earlier step than any output of it
-  pub offered : (t : ℕ) → t < z .slots → OfferedEarlier t [] (history cells steps)
+  pub agreed : (t : ℕ) → t < z .slots → AllCommit t (firstOutput t (history cells calls)) (history cells calls)
+  -- every command was offered in its slot, at an earlier call than any output of it
+  pub offered : (t : ℕ) → t < z .slots → OfferedEarlier t [] (history cells calls)

@@ -12,18 +12,17 @@ use Rattle.record.specs.declared.Reading.the-variants.{Decoded, Refused}
 use Rattle.record.specs.Read.{readingOf}
 use Rattle.record.proofs.Accepted.{used-bounds}
 use Rattle.room.specs.Step.{answered, stepped}
-use Rattle.history.specs.Run.{ran}
 use Rattle.transcript.specs.Lines.{stepLine}
 use Rattle.rehearsal.specs.Script.{Between, Unread, Script, ended, before, script}
-use Rattle.rehearsal.specs.Rehearsal.{recordLines}
+use Rattle.rehearsal.specs.Rehearsal.{recordLines, roomAfter}
 use Rattle.rehearsal.specs.Buffer.{stepMax, Taken, Added}
 use Rattle.rehearsal.proofs.ScriptLaws.{script-none, script-more, script-stop}
-use Rattle.rehearsal.proofs.TextLaws.{lines-none, lines-stop, lines-more, ran-none, ran-more}
+use Rattle.rehearsal.proofs.TextLaws.{lines-none, lines-stop, lines-more, room-none, room-more}
 use Rattle.rehearsal.proofs.BufferLaws.{to-end}
 
 pub record Going (input first room out : List ℕ) (at index place : ℕ) : Type 0 where
   pub text : take place out ++ recordLines index room (script (drop at input)) ≡ recordLines 0 first (script (drop 3 input))
-  pub cells : ran room (script (drop at input) .steps) ≡ ran first (script (drop 3 input) .steps)
+  pub cells : roomAfter room (script (drop at input)) ≡ roomAfter first (script (drop 3 input))
   pub far : 3 + 2 * index ≤ at
   pub within : at ≤ length input
   pub few : place ≤ stepMax * index
@@ -68,9 +67,9 @@ module _ (input : List ℕ) (at : ℕ) (more : at < length input) where
               ∙ ap (λ (s : Script). take place out ++ recordLines index room s) (sym here)
               ∙ g .text;
           cells =
-              ap (λ (s : Script). ran (stepped room st) (s .steps)) there
-              ∙ sym (ran-more room st rest)
-              ∙ ap (λ (s : Script). ran room (s .steps)) (sym here)
+              ap (roomAfter (stepped room st)) there
+              ∙ sym (room-more room st rest)
+              ∙ ap (roomAfter room) (sym here)
               ∙ g .cells;
           far = omega (arith, g .far, on .some);
           within = on .inside;
@@ -100,8 +99,8 @@ module _ (input : List ℕ) (at : ℕ) (more : at < length input) where
               ∙ ap (λ (s : Script). take place out ++ recordLines index room s) (sym here)
               ∙ g .text;
           room =
-              sym (ran-none room (Unread n))
-              ∙ ap (λ (s : Script). ran room (s .steps)) (sym here)
+              sym (room-none room (Unread n))
+              ∙ ap (roomAfter room) (sym here)
               ∙ g .cells;
           few = omega (arith, g .far, g .few, a .few);
         }
@@ -120,8 +119,8 @@ ends {input} {first} {room} {out} {at} {index} {place} g last short =
           ∙ ap (λ (s : Script). take place out ++ recordLines index room s) (sym here)
           ∙ g .text;
       room =
-          sym (ran-none room Between)
-          ∙ ap (λ (s : Script). ran room (s .steps)) (sym here)
+          sym (room-none room Between)
+          ∙ ap (roomAfter room) (sym here)
           ∙ g .cells;
       few = omega (arith, g .far, g .few);
     }

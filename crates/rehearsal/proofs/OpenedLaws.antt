@@ -14,11 +14,10 @@ use Rattle.layout.proofs.PlaceLaws.{fit-of}
 use Rattle.room.specs.declared.opening.Opening.the-variants.{Opened, Refused}
 use Rattle.room.specs.Open.{openRefusal, opening, opened, openedCells}
 use Rattle.room.proofs.OpenLaws.{opens-1, opens-room, accepted}
-use Rattle.history.specs.Run.{ran}
 use Rattle.transcript.specs.Lines.{lineMax, openLine, Printed}
 use Rattle.transcript.proofs.LineLaws.{open-max}
 use Rattle.rehearsal.specs.Script.{Script, script}
-use Rattle.rehearsal.specs.Rehearsal.{recordLines, serverLines, runText, inputMax, rehearsal}
+use Rattle.rehearsal.specs.Rehearsal.{recordLines, roomAfter, serverLines, runText, inputMax, rehearsal}
 use Rattle.rehearsal.specs.Buffer.{Holds, textMax, Taken, Added}
 use Rattle.rehearsal.proofs.BufferLaws.{added, holds}
 
@@ -48,8 +47,8 @@ module _ (z : Sizes) (row : List ℕ) where
       let is : cells ≡ openedCells z = same ∙ accepted z row (ap openRefusal e) .room in
       let few = fit-of z fits .servers in
       let lines = t .contents ∙ ap (λ (room : List ℕ). recordLines 0 room s) is in
-      let room = t .room ∙ ap (λ (r : List ℕ). ran r (s .steps)) is in
-      let whole = recordLines 0 (openedCells z) s ++ serverLines (ran (openedCells z) (s .steps)) (z .servers) in
+      let room = t .room ∙ ap (λ (r : List ℕ). roomAfter r s) is in
+      let whole = recordLines 0 (openedCells z) s ++ serverLines (roomAfter (openedCells z) s) (z .servers) in
       holds m j _ (omega (arith, t .few, a .few))
       (a .contents
       ∙ ap (λ (x : List ℕ). x ++ serverLines after (z .servers)) lines
@@ -64,7 +63,7 @@ module _ (z : Sizes) (row : List ℕ) where
       let is = refused-is exact e in
       let one = is .1 in
       let a = added p (omega arith) (open-max n (omega arith)) in
-      let whole = recordLines 0 (openedCells z) s ++ serverLines (ran (openedCells z) (s .steps)) (z .servers) in
+      let whole = recordLines 0 (openedCells z) s ++ serverLines (roomAfter (openedCells z) s) (z .servers) in
       holds m j _ (omega (arith, a .few))
       (a .contents
       ∙ ap openLine (sym one)

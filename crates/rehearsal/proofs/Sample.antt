@@ -22,7 +22,8 @@ use Rattle.room.specs.Step.{failedBelow, settled, answered, stepped}
 use Rattle.record.specs.Fields.{maskOf, stepOf}
 use Rattle.record.specs.Map.{fieldsLength, recordLength, asksMore, malformed, zeroAmong}
 use Rattle.record.specs.Read.{lowNumber, valuesAt, readChecks, readingOf}
-use Rattle.history.specs.Run.{ran, history}
+use Rattle.history.specs.Calls.{allSteps}
+use Rattle.history.specs.Run.{ran}
 use Rattle.catalogue.specs.Entry.{applies, entry}
 use Rattle.catalogue.specs.Fold.{cellsAfter, skippedBy, folded}
 use Rattle.catalogue.specs.Outputs.{outputAt, leading, outputsOf}
@@ -30,7 +31,7 @@ use Rattle.catalogue.specs.Call.{entriesOf, catalogueChecks, catalogueOf}
 use Rattle.transcript.specs.Text.{bytes, digitsIn, digits}
 use Rattle.transcript.specs.Lines.{stepLine, serverLine, openLine}
 use Rattle.rehearsal.specs.Script.{ended, before, readOn, scriptIn, script}
-use Rattle.rehearsal.specs.Rehearsal.{stepLines, endLine, recordLines, countsLine, lineOf, serverLines, runText, inputMax, rehearsal}
+use Rattle.rehearsal.specs.Rehearsal.{stepLines, endLine, recordLines, roomAfter, countsLine, lineOf, serverLines, runText, inputMax, rehearsal}
 use Rattle.rehearsal.proofs.OpenedLaws.{too-long}
 
 pub sample
@@ -46,9 +47,9 @@ unfolding ones onesIn
     legalDrives legalReads valueFits numbersFit serverFits blockFits serversFit blocksFit slotFits cellsFit inRange
     openedCells stepChecks effectOf ruleOf judged failedBelow settled answered stepped
     maskOf stepOf fieldsLength recordLength asksMore malformed zeroAmong lowNumber valuesAt readChecks readingOf
-    ran history applies entry cellsAfter skippedBy folded outputAt leading outputsOf entriesOf catalogueChecks catalogueOf
+    allSteps ran applies entry cellsAfter skippedBy folded outputAt leading outputsOf entriesOf catalogueChecks catalogueOf
     digitsIn digits stepLine serverLine openLine
-    ended before readOn scriptIn script stepLines endLine recordLines countsLine lineOf serverLines runText rehearsal
+    ended before readOn scriptIn script stepLines endLine recordLines roomAfter countsLine lineOf serverLines runText rehearsal
 sample = refl
 
 -- the three refusals of an input, in their order

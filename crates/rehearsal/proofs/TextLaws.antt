@@ -10,11 +10,12 @@ use Rattle.state.specs.declared.Answer.{Answer}
 use Rattle.state.specs.declared.Answer.the-variants as answer
 use Rattle.state.specs.Answers.{numberOf}
 use Rattle.room.specs.Step.{answered, stepped}
-use Rattle.history.specs.Run.{ran, history}
+use Rattle.history.specs.Calls.{allSteps}
+use Rattle.history.specs.Run.{ran}
 use Rattle.transcript.specs.Lines.{wordOf, stepLine}
 use Rattle.transcript.proofs.DigitLaws.{digits-most, digits-ten}
 use Rattle.rehearsal.specs.Script.{Ending, Between, Unread, Script, ended, before}
-use Rattle.rehearsal.specs.Rehearsal.{stepLines, endLine, recordLines, lineOf, serverLines}
+use Rattle.rehearsal.specs.Rehearsal.{stepLines, endLine, recordLines, roomAfter, lineOf, serverLines}
 use Rattle.rehearsal.specs.Buffer.{recordMax, stepMax}
 
 -- how long a line of a record is
@@ -32,32 +33,32 @@ step-short index a h k =
 
 -- a script with no record, with one that can't be read, and with one more record
 pub lines-none : (index : ℕ) (room : List ℕ) → recordLines index room (ended Between) ≡ []
-unfolding recordLines ended history stepLines endLine
+unfolding recordLines ended stepLines endLine
 lines-none index room = refl
 
 pub lines-stop : (index : ℕ) (room : List ℕ) (n : ℕ) → recordLines index room (ended (Unread n)) ≡ stepLine index (answer.Refused n)
-unfolding recordLines ended history stepLines endLine
+unfolding recordLines ended stepLines endLine
 lines-stop index room n = ap (λ (i : ℕ). stepLine i (answer.Refused n)) (omega arith)
 
 pub lines-more
     : (index : ℕ) (room : List ℕ) (st : Step) (s : Script)
     → recordLines index room (before st s) ≡ stepLine index (answered room st) ++ recordLines (index + 1) (stepped room st) s
-unfolding recordLines before history stepLines
+unfolding recordLines before stepLines
 lines-more index room st s =
     let last : index + suc (length (s .steps)) ≡ index + 1 + length (s .steps) = omega arith in
     let line = stepLine index (answered room st) in
-    let rest = stepLines (index + 1) (history (stepped room st) (s .steps)) in
+    let rest = stepLines (index + 1) (stepped room st) (s .steps) in
     ap (λ (i : ℕ). (line ++ rest) ++ endLine i (s .ending)) last
     ∙ append-assoc line rest (endLine (index + 1 + length (s .steps)) (s .ending))
 
 -- the room after a script
-pub ran-none : (room : List ℕ) (e : Ending) → ran room (ended e .steps) ≡ room
-unfolding ended ran
-ran-none room e = refl
+pub room-none : (room : List ℕ) (e : Ending) → roomAfter room (ended e) ≡ room
+unfolding roomAfter ended allSteps ran
+room-none room e = refl
 
-pub ran-more : (room : List ℕ) (st : Step) (s : Script) → ran room (before st s .steps) ≡ ran (stepped room st) (s .steps)
-unfolding before ran
-ran-more room st s = refl
+pub room-more : (room : List ℕ) (st : Step) (s : Script) → roomAfter room (before st s) ≡ roomAfter (stepped room st) s
+unfolding roomAfter before allSteps ran
+room-more room st s = refl
 
 -- one more server
 pub server-more : (room : List ℕ) (n : ℕ) → serverLines room (n + 1) ≡ serverLines room n ++ lineOf room n

@@ -3,10 +3,9 @@ use Prim.Native.Nat.{ℕ, _+_, _*_, _≤_}
 use mathlib.Core.Path.{_≡_}
 use mathlib.Core.List.{List, _++_}
 use lib.ListN.{length, take, drop}
-use Rattle.history.specs.Run.{ran}
 use Rattle.transcript.specs.Lines.{lineMax}
 use Rattle.rehearsal.specs.Script.{script}
-use Rattle.rehearsal.specs.Rehearsal.{recordLines, inputMax}
+use Rattle.rehearsal.specs.Rehearsal.{recordLines, roomAfter, inputMax}
 
 -- The first n bytes of the buffer are the text. The last part follows from the first; a part of the buffer that is lent
 -- asks for both.
@@ -35,7 +34,7 @@ textMax = stepMax * recordMax + lineMax * 4
 -- the records of an input taken: their lines, and the room after the last
 pub record Taken (input before after buffer : List ℕ) (n : ℕ) : Type 0 where
   pub contents : take n buffer ≡ recordLines 0 before (script (drop 3 input))
-  pub room : after ≡ ran before (script (drop 3 input) .steps)
+  pub room : after ≡ roomAfter before (script (drop 3 input))
   pub few : n ≤ stepMax * recordMax
 
 -- a text put behind the first n bytes, and how long it is at most

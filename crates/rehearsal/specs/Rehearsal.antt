@@ -6,10 +6,13 @@ use lib.ListN.{length, drop, replicate}
 use lib.Dec.{ltb}
 use Rattle.state.specs.declared.Sizes.{Sizes}
 use Rattle.state.specs.declared.Answer.the-variants as answer
+use Rattle.state.specs.declared.Step.{Step}
 use Rattle.layout.specs.Places.{sizesFit}
 use Rattle.layout.specs.Cells.{sizesOf}
 use Rattle.room.specs.Open.{openedCells}
-use Rattle.history.specs.Run.{Event, ran, history}
+use Rattle.room.specs.Step.{answered, stepped}
+use Rattle.history.specs.Calls.{allSteps}
+use Rattle.history.specs.Run.{ran}
 use Rattle.catalogue.specs.declared.Listing.{Listing}
 use Rattle.catalogue.specs.Fold.{pieces}
 use Rattle.catalogue.specs.Listing.{takenOf, skippedOf}
@@ -17,10 +20,10 @@ use Rattle.catalogue.specs.Call.{catalogueOf}
 use Rattle.transcript.specs.Lines.{stepLine, serverLine, openLine}
 use Rattle.rehearsal.specs.Script.{Ending, Between, Unread, Script, script}
 
--- the lines of the steps, by their answers
-unfoldable pub stepLines : ℕ → List Event → List ℕ
-stepLines index [] = []
-stepLines index (e ∷ es) = stepLine index (e .answer) ++ stepLines (index + 1) es
+-- the lines of the steps that are taken from a room on, by their answers
+unfoldable pub stepLines : ℕ → List ℕ → List Step → List ℕ
+stepLines index room [] = []
+stepLines index room (st ∷ sts) = stepLine index (answered room st) ++ stepLines (index + 1) (stepped room st) sts
 
 -- how the records end: a record that cannot be read has a line, the end of the input has none
 unfoldable pub endLine : ℕ → Ending → List ℕ
@@ -29,7 +32,11 @@ endLine index (Unread n) = stepLine index (answer.Refused n)
 
 -- the lines of a script that begins at an index and in a room
 unfoldable pub recordLines : ℕ → List ℕ → Script → List ℕ
-recordLines index room s = stepLines index (history room (s .steps)) ++ endLine (index + length (s .steps)) (s .ending)
+recordLines index room s = stepLines index room (s .steps) ++ endLine (index + length (s .steps)) (s .ending)
+
+-- the room after a script
+unfoldable pub roomAfter : List ℕ → Script → List ℕ
+roomAfter room s = ran room (allSteps (s .steps))
 
 -- a server's line, with the two counts of its catalogue
 unfoldable pub countsLine : ℕ → Listing → List ℕ
@@ -48,7 +55,7 @@ serverLines room (suc n) = serverLines room n ++ lineOf room n
 unfoldable pub runText : Sizes → Script → List ℕ
 runText z s =
     let room = openedCells z in
-    cond (sizesFit z) (recordLines 0 room s ++ serverLines (ran room (s .steps)) (z .servers)) (openLine 1)
+    cond (sizesFit z) (recordLines 0 room s ++ serverLines (roomAfter room s) (z .servers)) (openLine 1)
 
 -- the most bytes of an input
 abbrev pub inputMax : ℕ

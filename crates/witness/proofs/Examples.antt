@@ -19,16 +19,16 @@ use Rattle.catalogue.specs.Call.{entriesOf, catalogueChecks, catalogueOf, catal
 use Rattle.catalogue.specs.Entry.{applies, entry}
 use Rattle.catalogue.specs.Fold.{cellsAfter, skippedBy, folded}
 use Rattle.catalogue.specs.Outputs.{outputAt, leading, outputsOf}
-use Rattle.starred.specs.Runs.{newRoom, sameAnswer, replays}
-use Rattle.history.specs.Run.{ran, moveOf, outputBy, firstOutput}
+use Rattle.starred.specs.Runs.{newRoom}
+use Rattle.history.specs.Run.{ran, history, moveOf, outputBy, firstOutput}
 use Rattle.register.specs.OneHistory.{commandsOf}
-use Rattle.witness.specs.Example.{stepsOf, said, Worked}
+use Rattle.witness.specs.Example.{callsOf, said, Worked}
 use Rattle.witness.specs.Runs.{survivor, rivals, gap, halves, strikes, reuses}
-use Rattle.witness.proofs.Reading.{eventsOf, Computed, holds}
+use Rattle.witness.proofs.Reading.{Computed, holds}
 
 -- the line names all that the definitions of open, step and catalogue are made of
 computed : Computed survivor × Computed rivals × Computed gap × Computed halves × Computed strikes × Computed reuses
-unfolding survivor rivals gap halves strikes reuses newRoom sameAnswer replays stepsOf ran onesIn ones
+unfolding survivor rivals gap halves strikes reuses newRoom callsOf ran history onesIn ones
     limitOf hoardFits isCommand owned leastAbove nextOwn stands marked unmarked allBelow size gathered majority within
     placesFit commandFits
     meeting marking topping recalling rejoining bidding writing reading proposing committing
@@ -37,7 +37,7 @@ unfolding survivor rivals gap halves strikes reuses newRoom sameAnswer replays s
     legalDrives legalReads valueFits numbersFit serverFits blockFits serversFit blocksFit slotFits cellsFit inRange
     openedCells openChecks opening opened stepChecks effectOf ruleOf judged failedBelow settled answered stepped
     applies entry cellsAfter skippedBy folded outputAt leading outputsOf entriesOf catalogueChecks catalogueOf catalogueCells
-    eventsOf said commandsOf firstOutput outputBy moveOf
+    said commandsOf firstOutput outputBy moveOf
 computed = (refl, refl, refl, refl, refl, refl)
 
 -- one server commits and fails, and the other, with another offer, commits the same command

@@ -1,50 +1,25 @@
 -- An example whose values are computed holds: what demand 3 adds to them is read off the theorem.
 use Prim.Native.Nat.{ℕ, zero, suc, _<_}
 use mathlib.Core.Path.{_≡_, refl, _∙_, sym, ap, ap₂, subst}
-use mathlib.Core.Bool.{Bool, true}
 use mathlib.Core.List.{List, [], _∷_}
 use native.Mathlib.Omega.{arith}
 use lib.ListN.{getD, take, replicate}
 use lib.Dec.{eqb}
 use borrow.Author.Tests.{eqb-true, eqb-false}
 use Rattle.lemmas.proofs.Tests.{by-test}
-use Rattle.state.specs.declared.Step.{Step}
 use Rattle.layout.specs.Places.{roomLength}
 use Rattle.room.specs.Open.{openRefusal, opening}
-use Rattle.room.specs.Step.{stepped}
 use Rattle.catalogue.specs.Fold.{Entries, folded, start}
 use Rattle.catalogue.specs.Call.{catalogueOf, catalogueCells}
 use Rattle.catalogue.specs.Listing.{takenOf, skippedOf}
 use Rattle.catalogue.specs.declared.Listing.{Listing}
 use Rattle.catalogue.specs.declared.Listing.the-variants.{Counted}
-use Rattle.starred.specs.Runs.{newRoom, Line, _↝_, Own, OnDrive, Replays, replays}
-use Rattle.starred.proofs.RunLaws.{run-says}
-use Rattle.history.specs.Run.{Event, ran, history, Always}
+use Rattle.starred.specs.Runs.{newRoom}
+use Rattle.history.specs.Calls.{Event}
+use Rattle.history.proofs.Always.{at-last}
 use Rattle.register.specs.OneHistory.{commandsOf, OneHistory}
 use Rattle.register.proofs.Theorem.{one-history}
-use Rattle.witness.specs.Example.{Example, stepsOf, historyOf, lastRoom, said, chosenCode, committedCode, lent, Lists, IsFirst, Worked}
-
--- the steps with the answers that are written beside them
-unfoldable pub eventsOf : List Line → List Event
-eventsOf [] = []
-eventsOf (step ↝ answer ∷ run) = record { step = step; answer = answer } ∷ eventsOf run
-eventsOf (Own p b ∷ run) = eventsOf run
-eventsOf (OnDrive d p b ∷ run) = eventsOf run
-
--- where the answers are those written, they are the history
-as-written : (cells : List ℕ) (run : List Line) → Replays cells run → history cells (stepsOf run) ≡ eventsOf run
-unfolding Replays stepsOf eventsOf history
-as-written cells [] h = refl
-as-written cells (step ↝ answer ∷ run) h =
-    λ i. record { step = step; answer = h .0 i } ∷ as-written (stepped cells step) run (h .1) i
-as-written cells (Own p b ∷ run) h = as-written cells run (h .1)
-as-written cells (OnDrive d p b ∷ run) h = as-written cells run (h .1)
-
--- what always holds, holds at the end
-at-last : (P : List ℕ → Type 0) (cells : List ℕ) (steps : List Step) → Always P cells steps → P (ran cells steps)
-unfolding Always ran
-at-last P cells [] a = a
-at-last P cells (st ∷ sts) a = at-last P (stepped cells st) sts (a .1)
+use Rattle.witness.specs.Example.{Example, callsOf, historyOf, lastRoom, said, chosenCode, committedCode, lent, Lists, IsFirst, Worked}
 
 -- by server below n: what its catalogue answers, and the cells that it leaves
 abbrev Results : ℕ → Type 0
@@ -71,7 +46,7 @@ listed e (suc n) a p h =
 -- all that is compared of an example with n servers: what the run gives, and what the example tells
 record Values (n : ℕ) : Type 0 where
   opens : ℕ
-  answers : Bool
+  answers : List Event
   chosen : List ℕ
   committed : List ℕ
   commands : List ℕ
@@ -81,10 +56,10 @@ abbrev valuesOf : (e : Example) → Values (e .sizes .servers)
 valuesOf e =
     record {
       opens = openRefusal (opening (e .sizes) (replicate (roomLength (e .sizes)) 9));
-      answers = replays (newRoom (e .sizes)) (e .run);
-      chosen = said chosenCode (eventsOf (e .run));
-      committed = said committedCode (eventsOf (e .run));
-      commands = commandsOf (e .sizes) (eventsOf (e .run));
+      answers = historyOf e;
+      chosen = said chosenCode (e .run);
+      committed = said committedCode (e .run);
+      commands = commandsOf (e .sizes) (e .run);
       catalogues = resultsOf e (e .sizes .servers);
     }
 
@@ -92,7 +67,7 @@ abbrev valuesTold : (e : Example) → Values (e .sizes .servers)
 valuesTold e =
     record {
       opens = 0;
-      answers = true;
+      answers = e .run;
       chosen = e .chosen;
       committed = e .committed;
       commands = e .commands;
@@ -103,15 +78,12 @@ abbrev pub Computed : Example → Type 0
 Computed e = valuesOf e ≡ valuesTold e
 
 module _ (e : Example) (c : Computed e) where
-  answers : Replays (newRoom (e .sizes)) (e .run)
-  answers = run-says (newRoom (e .sizes)) (e .run) (λ i. c i .answers)
+  told : historyOf e ≡ e .run
+  told i = c i .answers
 
-  told : historyOf e ≡ eventsOf (e .run)
-  told = as-written (newRoom (e .sizes)) (e .run) answers
-
-  one : OneHistory (e .sizes) (newRoom (e .sizes)) (stepsOf (e .run))
+  one : OneHistory (e .sizes) (newRoom (e .sizes)) (callsOf (e .run))
   unfolding newRoom
-  one = one-history (e .sizes) (replicate (roomLength (e .sizes)) 9) (λ i. c i .opens) (stepsOf (e .run))
+  one = one-history (e .sizes) (replicate (roomLength (e .sizes)) 9) (λ i. c i .opens) (callsOf (e .run))
 
   commands : commandsOf (e .sizes) (historyOf e) ≡ e .commands
   commands = ap (commandsOf (e .sizes)) told ∙ (λ i. c i .commands)
@@ -119,7 +91,7 @@ module _ (e : Example) (c : Computed e) where
   -- the theorem's first k commands, for the k that was computed
   first : (p : ℕ) → p < e .sizes .servers → Lists e p → IsFirst e p
   first p h l =
-      let s = at-last _ (newRoom (e .sizes)) (stepsOf (e .run)) (one .catalogues) p h lent refl in
+      let s = at-last _ (newRoom (e .sizes)) (callsOf (e .run)) (one .catalogues) p h lent refl in
       let k : s .k ≡ getD (e .taken) p 0 = sym (s .taken) ∙ ap takenOf (l .answer) in
       let result : folded start (take (s .k) (commandsOf (e .sizes) (historyOf e))) ≡ folded start (take (getD (e .taken) p 0) (e .commands)) =
       ap₂ (λ (j : ℕ) (vs : List ℕ). folded start (take j vs)) k commands in
@@ -131,7 +103,7 @@ module _ (e : Example) (c : Computed e) where
   pub holds : Worked e
   holds =
       record {
-        answers = answers;
+        answers = told;
         one = one;
         chosen = ap (said chosenCode) told ∙ (λ i. c i .chosen);
         committed = ap (said committedCode) told ∙ (λ i. c i .committed);

@@ -6,20 +6,20 @@ use mathlib.Core.Path.{_≡_}
 use lib.Dec.{eqb}
 use lib.ListN.{getD, take, replicate}
 use Rattle.state.specs.declared.Sizes.{Sizes}
-use Rattle.state.specs.declared.Step.{Step}
 use Rattle.state.specs.Answers.{codeOf, numberOf}
 use Rattle.catalogue.specs.Call.{catalogueOf, catalogueCells}
 use Rattle.catalogue.specs.Fold.{pieces, folded, start}
 use Rattle.catalogue.specs.declared.Listing.the-variants.{Counted}
-use Rattle.starred.specs.Runs.{newRoom, Line, _↝_, Own, OnDrive, Replays}
-use Rattle.history.specs.Run.{Event, ran, history}
+use Rattle.starred.specs.Runs.{newRoom}
+use Rattle.history.specs.Calls.{Call, Steps, Event, Took, asStep}
+use Rattle.history.specs.Run.{ran, history}
 use Rattle.register.specs.OneHistory.{commandsOf, OneHistory}
 
 -- a run with what is expected of it
 pub record Example : Type 0 where
   pub sizes : Sizes
-  -- the steps, and beside each its answer
-  pub run : List Line
+  -- the calls, each with its answer
+  pub run : List Event
   -- the commands answered as chosen and as committed, in order
   pub chosen : List ℕ
   pub committed : List ℕ
@@ -30,22 +30,24 @@ pub record Example : Type 0 where
   pub skipped : List ℕ
   pub left : List (List ℕ)
 
-unfoldable pub stepsOf : List Line → List Step
-stepsOf [] = []
-stepsOf (step ↝ answer ∷ run) = step ∷ stepsOf run
-stepsOf (Own p b ∷ run) = stepsOf run
-stepsOf (OnDrive d p b ∷ run) = stepsOf run
+abbrev pub callOf : Event → Call
+callOf (Took st a) = Steps st
+
+unfoldable pub callsOf : List Event → List Call
+callsOf [] = []
+callsOf (e ∷ h) = callOf e ∷ callsOf h
 
 abbrev pub historyOf : Example → List Event
-historyOf e = history (newRoom (e .sizes)) (stepsOf (e .run))
+historyOf e = history (newRoom (e .sizes)) (callsOf (e .run))
 
 abbrev pub lastRoom : Example → List ℕ
-lastRoom e = ran (newRoom (e .sizes)) (stepsOf (e .run))
+lastRoom e = ran (newRoom (e .sizes)) (callsOf (e .run))
 
 -- the numbers beside the answers with one word, in order
 unfoldable pub said : ℕ → List Event → List ℕ
 said word [] = []
-said word (e ∷ h) = cond (eqb (codeOf (e .answer)) word) (numberOf (e .answer) ∷ said word h) (said word h)
+said word (e ∷ h) =
+    asStep (λ st a. cond (eqb (codeOf a) word) (numberOf a ∷ said word h) (said word h)) (said word h) e
 
 -- the words chosen and committed
 abbrev pub chosenCode : ℕ
@@ -69,9 +71,10 @@ pub record IsFirst (e : Example) (p : ℕ) : Type 0 where
   pub cells : getD (e .left) p [] ≡ folded start (take (getD (e .taken) p 0) (e .commands)) .cells
 
 pub record Worked (e : Example) : Type 0 where
-  pub answers : Replays (newRoom (e .sizes)) (e .run)
-  -- demand 3 for these very steps
-  pub one : OneHistory (e .sizes) (newRoom (e .sizes)) (stepsOf (e .run))
+  -- every call is answered as it is told
+  pub answers : historyOf e ≡ e .run
+  -- demand 3 for these very calls
+  pub one : OneHistory (e .sizes) (newRoom (e .sizes)) (callsOf (e .run))
   pub chosen : said chosenCode (historyOf e) ≡ e .chosen
   pub committed : said committedCode (historyOf e) ≡ e .committed
   pub commands : commandsOf (e .sizes) (historyOf e) ≡ e .commands

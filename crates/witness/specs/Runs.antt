@@ -8,7 +8,7 @@ use Rattle.state.specs.declared.Step.the-variants.{Offer, Recall, Rejoin, Write
 use Rattle.catalogue.specs.Entry.{struck}
 use Rattle.catalogue.specs.Fold.{pieces}
 use Rattle.state.specs.Sizes.{sizes}
-use Rattle.starred.specs.Runs.{Line, _↝_}
+use Rattle.history.specs.Calls.{Event, Took}
 use Rattle.witness.specs.Example.{Example}
 
 -- enter piece 5 in hoard 9; enter piece 7 in hoard 3; move piece 5 to hoard 12; strike piece 5
@@ -29,16 +29,16 @@ abbrev pub only : ℕ → ℕ → List ℕ
 only piece cell = set (replicate pieces 0) piece cell
 
 -- on drive 0 alone, in a room of one drive or two, server p goes from phase 0 to 3 in slot s, undisturbed by q, and commits v
-abbrev pub settles : ℕ → ℕ → ℕ → ℕ → ℕ → List Line
+abbrev pub settles : ℕ → ℕ → ℕ → ℕ → ℕ → List Event
 settles p q s ballot v =
-    Recall p s 0 ↝ Done
-    ∷ Rejoin p s ballot ↝ Done
-    ∷ Write p s 0 ↝ Done
-    ∷ Read p s 0 q ↝ Done
-    ∷ Finish p s ↝ Chosen v
-    ∷ Write p s 0 ↝ Done
-    ∷ Read p s 0 q ↝ Done
-    ∷ Finish p s ↝ Committed v
+    Took (Recall p s 0) Done
+    ∷ Took (Rejoin p s ballot) Done
+    ∷ Took (Write p s 0) Done
+    ∷ Took (Read p s 0 q) Done
+    ∷ Took (Finish p s) (Chosen v)
+    ∷ Took (Write p s 0) Done
+    ∷ Took (Read p s 0 q) Done
+    ∷ Took (Finish p s) (Committed v)
     ∷ []
 
 -- Server 0 commits its offer and fails. Server 1, with another offer, commits the same command, and then its own in
@@ -48,9 +48,9 @@ survivor =
     record {
       sizes = sizes 2 1 2;
       run =
-          (Offer 0 0 enter5 ↝ Done ∷ settles 0 1 0 1 enter5)
-          ++ (Fail 0 ↝ Done ∷ Offer 1 0 enter7 ↝ Done ∷ settles 1 0 0 2 enter5)
-          ++ (Offer 1 1 move5 ↝ Done ∷ settles 1 0 1 2 move5)
+          (Took (Offer 0 0 enter5) Done ∷ settles 0 1 0 1 enter5)
+          ++ (Took (Fail 0) Done ∷ Took (Offer 1 0 enter7) Done ∷ settles 1 0 0 2 enter5)
+          ++ (Took (Offer 1 1 move5) Done ∷ settles 1 0 1 2 move5)
           ++ settles 0 1 0 3 enter5;
       chosen = enter5 ∷ enter5 ∷ move5 ∷ enter5 ∷ [];
       committed = enter5 ∷ enter5 ∷ move5 ∷ enter5 ∷ [];
@@ -61,12 +61,12 @@ survivor =
     }
 
 -- in a room of two drives and one slot server p joins with an offer and a ballot
-abbrev pub joins : ℕ → ℕ → ℕ → List Line
-joins p v ballot = Offer p 0 v ↝ Done ∷ Recall p 0 0 ↝ Done ∷ Recall p 0 1 ↝ Done ∷ Rejoin p 0 ballot ↝ Done ∷ []
+abbrev pub joins : ℕ → ℕ → ℕ → List Event
+joins p v ballot = Took (Offer p 0 v) Done ∷ Took (Recall p 0 0) Done ∷ Took (Recall p 0 1) Done ∷ Took (Rejoin p 0 ballot) Done ∷ []
 
 -- it writes both drives and reads q's block on both
-abbrev pub round : ℕ → ℕ → List Line
-round p q = Write p 0 0 ↝ Done ∷ Write p 0 1 ↝ Done ∷ Read p 0 0 q ↝ Done ∷ Read p 0 1 q ↝ Done ∷ []
+abbrev pub round : ℕ → ℕ → List Event
+round p q = Took (Write p 0 0) Done ∷ Took (Write p 0 1) Done ∷ Took (Read p 0 0 q) Done ∷ Took (Read p 0 1 q) Done ∷ []
 
 -- Server 0 chooses its offer and has not written it when server 1, with a larger ballot, chooses another command and
 -- commits it. Server 0 then writes its own, is outbid, finds the other and commits that.
@@ -75,12 +75,12 @@ rivals =
     record {
       sizes = sizes 2 2 1;
       run =
-          (joins 0 enter5 1 ++ round 0 1 ++ (Finish 0 0 ↝ Chosen enter5 ∷ []))
-          ++ (joins 1 enter7 2 ++ round 1 0 ++ (Finish 1 0 ↝ Chosen enter7 ∷ []))
-          ++ (round 1 0 ++ (Finish 1 0 ↝ Committed enter7 ∷ []))
-          ++ (Write 0 0 0 ↝ Done ∷ Write 0 0 1 ↝ Done ∷ Read 0 0 0 1 ↝ Outbid 2 ∷ [])
-          ++ (round 0 1 ++ (Finish 0 0 ↝ Chosen enter7 ∷ []))
-          ++ (round 0 1 ++ (Finish 0 0 ↝ Committed enter7 ∷ []));
+          (joins 0 enter5 1 ++ round 0 1 ++ (Took (Finish 0 0) (Chosen enter5) ∷ []))
+          ++ (joins 1 enter7 2 ++ round 1 0 ++ (Took (Finish 1 0) (Chosen enter7) ∷ []))
+          ++ (round 1 0 ++ (Took (Finish 1 0) (Committed enter7) ∷ []))
+          ++ (Took (Write 0 0 0) Done ∷ Took (Write 0 0 1) Done ∷ Took (Read 0 0 0 1) (Outbid 2) ∷ [])
+          ++ (round 0 1 ++ (Took (Finish 0 0) (Chosen enter7) ∷ []))
+          ++ (round 0 1 ++ (Took (Finish 0 0) (Committed enter7) ∷ []));
       chosen = enter5 ∷ enter7 ∷ enter7 ∷ [];
       committed = enter7 ∷ enter7 ∷ [];
       commands = enter7 ∷ [];
@@ -94,7 +94,7 @@ unfoldable pub gap : Example
 gap =
     record {
       sizes = sizes 2 1 2;
-      run = Offer 0 1 enter5 ↝ Done ∷ settles 0 1 1 1 enter5;
+      run = Took (Offer 0 1 enter5) Done ∷ settles 0 1 1 1 enter5;
       chosen = enter5 ∷ [];
       committed = enter5 ∷ [];
       commands = [];
@@ -104,9 +104,9 @@ gap =
     }
 
 -- with drive 0 off, server p recalls drive 1 and cannot rejoin
-abbrev pub shutOut : ℕ → ℕ → List Line
+abbrev pub shutOut : ℕ → ℕ → List Event
 shutOut p ballot =
-    Fail p ↝ Done ∷ Recall p 0 1 ↝ Done ∷ Rejoin p 0 ballot ↝ Refused 10 ∷ Recall p 0 0 ↝ Refused 8 ∷ []
+    Took (Fail p) Done ∷ Took (Recall p 0 1) Done ∷ Took (Rejoin p 0 ballot) (Refused 10) ∷ Took (Recall p 0 0) (Refused 8) ∷ []
 
 -- Drive 1 of two is off from the start, and server 0 settles its offer on drive 0 alone. Server 1 begins with another, drive
 -- 1 comes on and drive 0 goes off: on drive 1 alone it cannot finish, nor can anyone begin. With drive 0 on again both commit
@@ -116,12 +116,12 @@ halves =
     record {
       sizes = sizes 2 2 1;
       run =
-          (DriveOff 1 ↝ Done ∷ Offer 0 0 enter5 ↝ Done ∷ settles 0 1 0 1 enter5)
-          ++ (Offer 1 0 enter7 ↝ Done ∷ Recall 1 0 0 ↝ Done ∷ Rejoin 1 0 2 ↝ Done ∷ [])
-          ++ (DriveOn 1 ↝ Done ∷ DriveOff 0 ↝ Done ∷ [])
-          ++ (Write 1 0 1 ↝ Done ∷ Read 1 0 1 0 ↝ Done ∷ Finish 1 0 ↝ Refused 10 ∷ [])
+          (Took (DriveOff 1) Done ∷ Took (Offer 0 0 enter5) Done ∷ settles 0 1 0 1 enter5)
+          ++ (Took (Offer 1 0 enter7) Done ∷ Took (Recall 1 0 0) Done ∷ Took (Rejoin 1 0 2) Done ∷ [])
+          ++ (Took (DriveOn 1) Done ∷ Took (DriveOff 0) Done ∷ [])
+          ++ (Took (Write 1 0 1) Done ∷ Took (Read 1 0 1 0) Done ∷ Took (Finish 1 0) (Refused 10) ∷ [])
           ++ (shutOut 1 4 ++ shutOut 0 3)
-          ++ (DriveOn 0 ↝ Done ∷ Offer 1 0 enter7 ↝ Done ∷ settles 1 0 0 4 enter5)
+          ++ (Took (DriveOn 0) Done ∷ Took (Offer 1 0 enter7) Done ∷ settles 1 0 0 4 enter5)
           ++ settles 0 1 0 5 enter5;
       chosen = enter5 ∷ enter5 ∷ enter5 ∷ [];
       committed = enter5 ∷ enter5 ∷ enter5 ∷ [];
@@ -132,15 +132,15 @@ halves =
     }
 
 -- in a room of one server and one drive the server offers v in slot s and commits it
-abbrev pub alone : ℕ → ℕ → List Line
+abbrev pub alone : ℕ → ℕ → List Event
 alone s v =
-    Offer 0 s v ↝ Done
-    ∷ Recall 0 s 0 ↝ Done
-    ∷ Rejoin 0 s 1 ↝ Done
-    ∷ Write 0 s 0 ↝ Done
-    ∷ Finish 0 s ↝ Chosen v
-    ∷ Write 0 s 0 ↝ Done
-    ∷ Finish 0 s ↝ Committed v
+    Took (Offer 0 s v) Done
+    ∷ Took (Recall 0 s 0) Done
+    ∷ Took (Rejoin 0 s 1) Done
+    ∷ Took (Write 0 s 0) Done
+    ∷ Took (Finish 0 s) (Chosen v)
+    ∷ Took (Write 0 s 0) Done
+    ∷ Took (Finish 0 s) (Committed v)
     ∷ []
 
 -- A piece is entered and struck.
