@@ -10,7 +10,7 @@ use lib.Dec.{eqb, ltb}
 use borrow.Author.Tests.{eqb-true, eqb-false, ltb-true, ltb-false}
 use Rattle.lemmas.proofs.Tests.{by-test}
 use Rattle.checks.specs.Refusals.{Refusal, refusalsOf, numbersOf, rises, lowest}
-use Rattle.checks.proofs.LowestLaws.{first-applies, lowest-first}
+use Rattle.checks.proofs.LowestLaws.{first-applies, least-applies}
 use Rattle.state.specs.declared.Sizes.{Sizes}
 use Rattle.layout.specs.Cells.{sizesOf}
 use Rattle.range.specs.Range.{inRange}
@@ -122,16 +122,12 @@ module _ (room : List ℕ) (server : ℕ) (out : List ℕ) where
   unfolding catalogueOf catalogueChecks
   catalogue-lowest = first-applies Refused catalogueRefusal (λ n. refl) (catalogueChecks room server out) refl
 
-  catalogue-rising : rises 0 (numbersOf (refusalsOf (catalogueChecks room server out))) ≡ true
-  unfolding catalogueChecks numbersOf rises
-  catalogue-rising = refl
-
   -- and no lower one applies
   pub catalogue-least
       : (r : Refusal) → List·Memᴰ r (refusalsOf (catalogueChecks room server out)) → r .applies ≡ true
       → catalogueRefusal (catalogueOf room server out) ≤ r .number
-  catalogue-least r m e =
-      rw catalogue-lowest (lowest-first 0 (refusalsOf (catalogueChecks room server out)) catalogue-rising r m e .least)
+  unfolding catalogueOf catalogueChecks numbersOf rises
+  catalogue-least = least-applies Refused catalogueRefusal (λ n. refl) (catalogueChecks room server out) refl refl
 
   left : (l : Listing) (new : List ℕ) → (catalogueRefusal l ≡ 0 → ⊥) → leftBy l new out ≡ out
   left (Counted k n) new h = absurd (h refl)

@@ -4,7 +4,6 @@ use Prim.Native.Nat.{ℕ, _≤_, _<_}
 use mathlib.Core.Path.{_≡_, _∙_, sym, ap}
 use mathlib.Core.Bool.{true, false}
 use mathlib.Core.List.{List}
-use native.Mathlib.Omega.{arith}
 use lib.ListN.{length}
 use lib.Dec.{eqb, ltb}
 use borrow.Author.Tests.{eq-eqb, ne-eqb, lt-ltb, le-ltb}
@@ -12,7 +11,7 @@ use Rattle.checks.specs.Checks.{must}
 use Rattle.checks.proofs.CheckLaws.{passes, fails}
 use Rattle.layout.specs.Places.{base}
 use Rattle.layout.specs.Cells.{sizesOf, limitsOf}
-use Rattle.layout.proofs.PlaceLaws.{base-room}
+use Rattle.layout.proofs.PlaceLaws.{row-head}
 use Rattle.range.specs.Range.{inRange}
 use Rattle.range.proofs.Laws.{range-says}
 use Rattle.catalogue.specs.Fold.{pieces}
@@ -24,9 +23,7 @@ use Rattle.catalogue.proofs.OutputLaws.{output-piece}
 -- a room in range has the cells of its sizes, at most four servers, and outputs that can be listed
 module _ (room : List ℕ) (range : inRange room ≡ true) where
   pub room-head : base ≤ length room
-  room-head =
-      let i = range-says room range in
-      omega (arith, base-room (sizesOf room) (i .row .fit), i .row .exact)
+  room-head = row-head (sizesOf room) room (range-says room range .row)
 
   pub room-servers : sizesOf room .servers ≤ 4
   room-servers = range-says room range .row .fit .servers

@@ -20,22 +20,6 @@ closed (Must b n c) rest = closed c rest
 closed (Either t x y) rest = closed x (refusalsIn false y rest) ∙ closed y rest
 closed (Gives a) rest = refl
 
--- refused makes the answer of a number, and number reads it off an answer: 0 where the answer is no refusal
-module _ {A : Type 0} (refused : ℕ → A) (number : A → ℕ) (reads : (n : ℕ) → number (refused n) ≡ n) where
-  first-in
-      : (c : Checked A) (rest : List Refusal) → lowest rest ≡ 0 → AllGive (λ a. number a ≡ 0) c
-      → number (outcome refused c) ≡ lowest (refusalsIn true c rest)
-  unfolding lowest must
-  first-in (Must true n c) rest h s = first-in c rest h s
-  first-in (Must false n c) rest h s = reads n
-  first-in (Either true x y) rest h s = first-in x (refusalsIn false y rest) (closed y rest ∙ h) (s .0)
-  first-in (Either false x y) rest h s = first-in y rest h (s .1) ∙ sym (closed x (refusalsIn true y rest))
-  first-in (Gives a) rest h s = s ∙ sym h
-
-  -- the answer carries the first refusal that applies
-  pub first-applies : (c : Checked A) → AllGive (λ a. number a ≡ 0) c → number (outcome refused c) ≡ lowest (refusalsOf c)
-  first-applies c s = first-in c [] (unfold lowest in refl) s
-
 -- every other that applies is above n, and at least the first
 pub record Above (n first m : ℕ) : Type 0 where
   pub above : n < m
@@ -67,3 +51,25 @@ lowest-first n (x ∷ rs) up r m e =
         by-test (x .applies)
         (λ on. rw on (record { above = omega arith; least = omega arith }))
         (λ off. rw off (record { above = omega arith; least = later .least }))
+
+-- refused makes the answer of a number, and number reads it off an answer: 0 where the answer is no refusal
+module _ {A : Type 0} (refused : ℕ → A) (number : A → ℕ) (reads : (n : ℕ) → number (refused n) ≡ n) where
+  first-in
+      : (c : Checked A) (rest : List Refusal) → lowest rest ≡ 0 → AllGive (λ a. number a ≡ 0) c
+      → number (outcome refused c) ≡ lowest (refusalsIn true c rest)
+  unfolding lowest must
+  first-in (Must true n c) rest h s = first-in c rest h s
+  first-in (Must false n c) rest h s = reads n
+  first-in (Either true x y) rest h s = first-in x (refusalsIn false y rest) (closed y rest ∙ h) (s .0)
+  first-in (Either false x y) rest h s = first-in y rest h (s .1) ∙ sym (closed x (refusalsIn true y rest))
+  first-in (Gives a) rest h s = s ∙ sym h
+
+  -- the answer carries the first refusal that applies
+  pub first-applies : (c : Checked A) → AllGive (λ a. number a ≡ 0) c → number (outcome refused c) ≡ lowest (refusalsOf c)
+  first-applies c s = first-in c [] (unfold lowest in refl) s
+
+  -- and no other that applies is lower, where the numbers rise
+  pub least-applies
+      : (c : Checked A) → AllGive (λ a. number a ≡ 0) c → rises 0 (numbersOf (refusalsOf c)) ≡ true
+      → (r : Refusal) → List·Memᴰ r (refusalsOf c) → r .applies ≡ true → number (outcome refused c) ≤ r .number
+  least-applies c s up r m e = rw (first-applies c s) (lowest-first 0 (refusalsOf c) up r m e .least)

@@ -149,6 +149,10 @@ module _ (z : Sizes) (fit : Fit z) where
   unfolding roomLength
   base-room = omega arith
 
+-- the head of a room is in its row
+pub row-head : (z : Sizes) (cells : List ℕ) → Row z cells → base ≤ length cells
+row-head z cells r = omega (arith, base-room z (r .fit), r .exact)
+
 -- n cells from a place on are in the row, and the row is short
 pub record Inside (cells : List ℕ) (at n : ℕ) : Type 0 where
   pub end : at + n ≤ length cells

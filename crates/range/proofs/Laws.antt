@@ -3,7 +3,6 @@ use Prim.Native.Nat.{ℕ, _+_, _*_, _<_, _≤_}
 use mathlib.Core.Path.{_≡_, _∙_, sym, ap₂}
 use mathlib.Core.Bool.{Bool, true, false, _&&_, and-false}
 use mathlib.Core.List.{List}
-use native.Mathlib.Nat.{le-trans, le-of-eq}
 use lib.ListN.{length}
 use lib.Dec.{eqb, leb}
 use borrow.Author.Tests.{le-leb, lt-leb, eqb-true, eq-eqb}
@@ -13,7 +12,7 @@ use Rattle.quorum.proofs.AllBelow.{all-at, all-intro}
 use Rattle.state.specs.declared.Sizes.{Sizes}
 use Rattle.layout.specs.Places.{base, sizesFit, roomLength, nthBlockAt, blockAt, Row}
 use Rattle.layout.specs.Cells.{sizesOf, offOf, limitsOf, serverOf, blockOf, blockIn}
-use Rattle.layout.proofs.PlaceLaws.{fit-of, of-fit, nth-of, base-room}
+use Rattle.layout.proofs.PlaceLaws.{fit-of, of-fit, nth-of, row-head}
 use Rattle.range.specs.Range.{legalDrives, masksOf, valueFits, serverFits, blockFits, serversFit, blocksFit, slotFits, cellsFit, inRange}
 
 -- the tests in their order, for a row of claimed limits and sizes z
@@ -111,5 +110,5 @@ pub says-range
     : (limits : List ℕ) (z : Sizes) (r : List ℕ) → limits ≡ limitsOf r → z ≡ sizesOf r → InRange limits z r
     → inRange r ≡ true
 says-range limits z r l e i =
-    row-of limits z r l e (le-trans (base-room z (i .row .fit)) (le-of-eq (sym (i .row .exact))))
+    row-of limits z r l e (row-head z r (i .row))
     ∙ say-cells limits z r i

@@ -10,7 +10,7 @@ use borrow.Author.Tests.{eqb-true}
 use Rattle.lemmas.proofs.Tests.{by-test}
 use Rattle.checks.specs.Checks.{must}
 use Rattle.checks.specs.Refusals.{Refusal, refusalsOf, numbersOf, rises, lowest}
-use Rattle.checks.proofs.LowestLaws.{first-applies, lowest-first}
+use Rattle.checks.proofs.LowestLaws.{first-applies, least-applies}
 use Rattle.state.specs.declared.Sizes.{Sizes}
 use Rattle.layout.specs.Places.{sizesFit, roomLength, Fit}
 use Rattle.layout.proofs.PlaceLaws.{base-room}
@@ -68,14 +68,11 @@ module _ (z : Sizes) (cells : List ℕ) where
   unfolding opening openChecks
   open-lowest = first-applies Refused openRefusal (λ n. refl) (openChecks z cells) refl
 
-  open-rising : rises 0 (numbersOf (refusalsOf (openChecks z cells))) ≡ true
-  unfolding openChecks numbersOf rises
-  open-rising = refl
-
   -- and no lower one applies
   pub open-least
       : (r : Refusal) → List·Memᴰ r (refusalsOf (openChecks z cells)) → r .applies ≡ true → openRefusal (opening z cells) ≤ r .number
-  open-least r m e = rw open-lowest (lowest-first 0 (refusalsOf (openChecks z cells)) open-rising r m e .least)
+  unfolding opening openChecks numbersOf rises
+  open-least = least-applies Refused openRefusal (λ n. refl) (openChecks z cells) refl refl
 
   left : (o : Opening) → (openRefusal o ≡ 0 → ⊥) → openedBy z cells o ≡ cells
   left Opened h = absurd (h refl)

@@ -14,7 +14,7 @@ use Rattle.state.specs.declared.Sizes.{Sizes}
 use Rattle.state.specs.Server.{failed}
 use Rattle.layout.specs.Places.{nthBlockAt, blockAt}
 use Rattle.layout.specs.Cells.{sizesOf, offAt, serverOf, blockOf, blockIn, putServer, putBlock}
-use Rattle.layout.proofs.PlaceLaws.{base-room}
+use Rattle.layout.proofs.PlaceLaws.{row-head}
 use Rattle.layout.proofs.RoomLaws.{server-row, server-sizes, server-off, server-after-server, other-server-after-server, nth-after-server, block-row, block-sizes, block-off, block-after-block, other-nth-after-block, server-after-block, off-row, off-sizes, server-after-off, nth-after-off}
 use Rattle.range.specs.Range.{legalDrives, masksOf, valueFits, serverFits, blockFits}
 use Rattle.range.proofs.Laws.{InRange}
@@ -105,7 +105,7 @@ module _ (limits : List ℕ) (z : Sizes) where
               row = off-row z r row m;
               off =
                   ap (λ (x : ℕ). within x (legalDrives z))
-                  (getD-set-same r offAt m 0 (let e = row .exact in omega (arith, base-room z (row .fit))))
+                  (getD-set-same r offAt m 0 (omega (arith, row-head z r row)))
                   ∙ i;
               servers =
                   λ t q h l.

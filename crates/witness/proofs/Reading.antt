@@ -1,7 +1,7 @@
 -- An example whose values are computed holds: what demand 3 adds to them is read off the theorem.
 use Prim.Native.Nat.{ℕ, zero, suc, _<_}
 use mathlib.Core.Path.{_≡_, refl, _∙_, sym, ap, ap₂, subst}
-use mathlib.Core.List.{List, [], _∷_}
+use mathlib.Core.List.{List, []}
 use native.Mathlib.Omega.{arith}
 use lib.ListN.{getD, take, replicate}
 use lib.Dec.{eqb}

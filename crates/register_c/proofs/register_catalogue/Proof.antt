@@ -35,19 +35,18 @@ same-length c = search needs
 
 returns : tie.Need-returns
 returns c =
-    let at-taken = c .before .taken in
-    let at-catalogue = c .before .before .before .before .before .catalogue in
-    (no-word _ ∙ sym (ap packedListing (at-taken .given .1)) ∙ ap packedListing (at-catalogue .ensures .0), at-catalogue .ensures .1)
+    let told = c .before in
+    let listed = told .before .before .before .before .catalogue .ensures in
+    (no-word _ ∙ sym (ap packedListing (told .taken .given .1)) ∙ ap packedListing (listed .0), listed .1)
 
 same-length-2 : tie.Need-same-length-2
 same-length-2 c = search needs
 
 returns-2 : tie.Need-returns-2
 returns-2 c =
-    let at-pack = c .pack in
-    let at-number = c .before .before .number in
-    let at-catalogue = c .before .before .before .before .before .before .catalogue in
-    (at-pack .ensures ∙ sym (ap packedListing (at-number .given .1)) ∙ ap packedListing (at-catalogue .ensures .0), at-catalogue .ensures .1)
+    let told = c .before .before in
+    let listed = told .before .before .before .before .catalogue .ensures in
+    (c .pack .ensures ∙ sym (ap packedListing (told .number .given .1)) ∙ ap packedListing (listed .0), listed .1)
 
 pub register-catalogue-spec : {M : Type 1} → statement M
 register-catalogue-spec =

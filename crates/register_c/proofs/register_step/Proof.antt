@@ -30,26 +30,24 @@ same-length c = search needs
 
 returns : tie.Need-returns
 returns c =
-    let at-step = c .before .before .before .before .before .before .step in
-    let at-read-record = c .before .before .before .before .before .before .before .before .read-record in
-    let at-answer-word = c .answer-word in
-    let at-step2 = c .before .before .before .step2 in
-    let at-args = c .before .before .before .before .before .before .before .before .before .before .before .args in
-    let same = sym (at-step .given .1) ∙ at-read-record .ensures in (
-      at-answer-word .ensures ∙ ap packedAnswer (at-step2 .ensures .0)
-          ∙ ap (λ (r : Reading). packedAnswer (recordAnswered (at-args .room .now) r)) same,
-      at-step2 .ensures .1 ∙ ap (recordStepped (at-args .room .now)) same,
+    let stepped = c .before .before .before in
+    let told = stepped .before .before .before in
+    let read = told .before .before in
+    let room = read .before .before .before .args .room .now in
+    let same = sym (told .step .given .1) ∙ read .read-record .ensures in (
+      c .answer-word .ensures ∙ ap packedAnswer (stepped .step2 .ensures .0)
+          ∙ ap (λ (r : Reading). packedAnswer (recordAnswered room r)) same,
+      stepped .step2 .ensures .1 ∙ ap (recordStepped room) same,
     )
 
 returns-2 : tie.Need-returns-2
 returns-2 c =
-    let at-number = c .before .before .number in
-    let at-read-record = c .before .before .before .before .read-record in
-    let at-pack = c .pack in
-    let at-args = c .before .before .before .before .before .before .before .args in
-    let same = sym (at-number .given .1) ∙ at-read-record .ensures in (
-      at-pack .ensures ∙ ap (λ (r : Reading). packedAnswer (recordAnswered (at-args .room .now) r)) same,
-      ap (recordStepped (at-args .room .now)) same,
+    let told = c .before .before in
+    let read = told .before .before in
+    let room = read .before .before .before .args .room .now in
+    let same = sym (told .number .given .1) ∙ read .read-record .ensures in (
+      c .pack .ensures ∙ ap (λ (r : Reading). packedAnswer (recordAnswered room r)) same,
+      ap (recordStepped room) same,
     )
 
 pub register-step-spec : {M : Type 1} → statement M

@@ -2,7 +2,6 @@
 use borrow.Author.Needs.{needs}
 use Rattle.room.proofs.effect.judge.Statement.{statement}
 use Rattle.room.proofs.effect.judge.Tie as tie
-use native.Mathlib.Omega.{arith}
 use Prim.Native.Nat.{ℕ}
 use mathlib.Core.Path.{_≡_, _∙_, sym, ap, subst⁻¹}
 use mathlib.Core.Bool.{true}
@@ -12,40 +11,44 @@ use Rattle.state.specs.declared.Sizes.{Sizes}
 use Rattle.synod.specs.Arguments.{placesFit, commandFits}
 use Rattle.layout.specs.Cells.{sizesOf, limitsOf}
 use Rattle.layout.specs.Places.{Row}
-use Rattle.layout.proofs.PlaceLaws.{base-room}
+use Rattle.layout.proofs.PlaceLaws.{row-head}
 use Rattle.range.specs.Range.{inRange}
 use Rattle.range.proofs.Laws.{range-says}
 use Rattle.room.specs.Judge.{effectOf}
 use Rattle.room.proofs.Checks.{refused-3, refused-4, refused-5, passed}
 
 -- once the sizes are asked for, the row is a room in range
-ranged : (c : tie.After-sizes) → inRange (c .before .before .before .before .args .room .now) ≡ true
+abbrev start : tie.After-sizes → tie.Start
+start c = c .before .before .before .before
+
+ranged : (c : tie.After-sizes) → inRange (start c .args .room .now) ≡ true
 ranged c = holds (c .before .before .in-range .ensures) (c .before .if1 .left)
 
 -- the places were judged by the room's own sizes, the command by its own limits
 places
     : (c : tie.After-places-fit)
-    → let args = c .before .before .before .before .before .args in
+    → let args = start (c .before) .args in
     c .places-fit .result ≡ placesFit (sizesOf (args .room .now)) (args .step)
 places c =
-    let args = c .before .before .before .before .before .args in
+    let args = start (c .before) .args in
     c .places-fit .ensures ∙ ap (λ (z : Sizes). placesFit z (args .step)) (c .before .sizes .ensures)
+
+abbrev sized : tie.After-command-fits → tie.After-sizes
+sized c = c .before .before .before .before .before
 
 commands
     : (c : tie.After-command-fits)
-    → let args = c .before .before .before .before .before .before .before .before .before .args in
+    → let args = start (sized c) .args in
     c .command-fits .result ≡ commandFits (limitsOf (args .room .now)) (args .step)
 commands c =
-    let args = c .before .before .before .before .before .before .before .before .before .args in
+    let args = start (sized c) .args in
     c .command-fits .ensures ∙ ap (λ (l : List ℕ). commandFits l (args .step)) (c .before .before .limits .ensures)
 
 returns : tie.Need-returns
 returns c = sym (refused-3 _ _ (lacks (c .before .in-range .ensures) (c .if1 .taken)))
 
 sizes-requires : tie.Need-sizes-requires
-sizes-requires c κs =
-    let i = range-says _ (holds (c .before .in-range .ensures) (c .if1 .left)) in
-    omega (arith, base-room _ (i .row .fit), i .row .exact)
+sizes-requires c κs = row-head _ _ (range-says _ (holds (c .before .in-range .ensures) (c .if1 .left)) .row)
 
 returns-2 : tie.Need-returns-2
 returns-2 c = sym (refused-4 _ _ (ranged (c .before .before)) (lacks (places (c .before)) (c .if2 .taken)))
@@ -60,7 +63,7 @@ rule-requires : tie.Need-rule-requires
 rule-requires c κs =
     let placed = c .before .before .before .before .before in
     let i = range-says _ (ranged (placed .before)) in (
-      subst⁻¹ (λ (z : Sizes). Row z (placed .before .before .before .before .before .args .room .now)) (placed .before .sizes .ensures) (i .row),
+      subst⁻¹ (λ (z : Sizes). Row z (start (placed .before) .args .room .now)) (placed .before .sizes .ensures) (i .row),
       holds (placed .places-fit .ensures) (c .before .before .before .before .if2 .left),
     )
 
@@ -70,7 +73,7 @@ returns-4 c =
     let placed = judged .before .before .before .before in
     let fit = holds (places placed) (judged .before .before .before .if2 .left) in
     let brought = holds (commands judged) (c .before .if3 .left) in
-    let args = placed .before .before .before .before .before .args in
+    let args = start (placed .before) .args in
     c .rule .ensures ∙ ap (λ (z : Sizes). effectOf z (args .room .now) (args .step)) (placed .before .sizes .ensures)
     ∙ sym (passed _ _ (ranged (placed .before)) fit brought)
 

@@ -8,7 +8,7 @@ use mathlib.Core.Bool.{true}
 use Rattle.state.specs.declared.Sizes.{Sizes}
 use Rattle.state.specs.declared.Step.{Step}
 use Rattle.synod.specs.Arguments.{placesFit}
-use Rattle.layout.proofs.PlaceLaws.{base-room}
+use Rattle.layout.proofs.PlaceLaws.{row-head}
 use Rattle.room.specs.Judge.{effectOf}
 use Rattle.synod.specs.Rules.{ruleOf}
 use Rattle.synod.proofs.Places.{Placed, placed}
@@ -21,7 +21,7 @@ shared-slice-read-off : tie.Need-shared-slice-read-off
 shared-slice-read-off c =
     let at-args = c .before .before .args in
     let at-pre = c .before .before .pre in
-    omega (arith, base-room (at-args .z) (at-pre .0 .fit), at-pre .0 .exact)
+    omega (arith, row-head (at-args .z) (at-args .room .now) (at-pre .0))
 
 server-requires : tie.Need-server-requires
 server-requires c κs =
@@ -37,8 +37,9 @@ server-requires-2 c κs =
 
 block-requires : tie.Need-block-requires
 block-requires c κs =
-    let pre = c .before .before .before .before .before .before .pre in
-    let a = told _ _ _ (pre .1) (c .before .before .step2 .given .1) in
+    let known = c .before .before in
+    let pre = known .before .before .before .before .pre in
+    let a = told _ _ _ (pre .1) (known .step2 .given .1) in
     (pre .0, a .slot, a .drive, a .server)
 
 server-requires-3 : tie.Need-server-requires-3
@@ -67,8 +68,9 @@ server-requires-6 c κs =
 
 block-requires-2 : tie.Need-block-requires-2
 block-requires-2 c κs =
-    let pre = c .before .before .before .before .before .before .pre in
-    let a = told _ _ _ (pre .1) (c .before .before .step6 .given .1) in
+    let known = c .before .before in
+    let pre = known .before .before .before .before .pre in
+    let a = told _ _ _ (pre .1) (known .step6 .given .1) in
     (pre .0, a .slot, a .drive, a .other)
 
 server-requires-7 : tie.Need-server-requires-7
@@ -85,7 +87,9 @@ returns c =
 returns-2 : tie.Need-returns-2
 unfolding effectOf ruleOf
 returns-2 c =
-    rw (c .before .before .before .before .before .step2 .given .1, c .recorded2 .ensures, c .before .recall .ensures, c .before .before .block .ensures, c .before .before .before .server2 .ensures)
+    let loaded = c .before .before in
+    let told = loaded .before .before .before in
+    rw (told .step2 .given .1, c .recorded2 .ensures, c .before .recall .ensures, loaded .block .ensures, loaded .before .server2 .ensures)
 
 returns-3 : tie.Need-returns-3
 unfolding effectOf ruleOf
@@ -105,7 +109,9 @@ returns-5 c =
 returns-6 : tie.Need-returns-6
 unfolding effectOf ruleOf
 returns-6 c =
-    rw (c .before .before .before .before .before .step6 .given .1, c .recorded5 .ensures, c .before .read .ensures, c .before .before .block2 .ensures, c .before .before .before .server6 .ensures)
+    let loaded = c .before .before in
+    let told = loaded .before .before .before in
+    rw (told .step6 .given .1, c .recorded5 .ensures, c .before .read .ensures, loaded .block2 .ensures, loaded .before .server6 .ensures)
 
 returns-7 : tie.Need-returns-7
 unfolding effectOf ruleOf

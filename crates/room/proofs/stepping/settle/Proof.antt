@@ -3,21 +3,16 @@ use borrow.Author.Needs.{needs}
 use Rattle.room.proofs.stepping.settle.Statement.{statement}
 use Rattle.room.proofs.stepping.settle.Tie as tie
 use native.Mathlib.Omega.{arith}
-use Prim.Native.Nat.{ℕ, _<_, _≤_}
+use Prim.Native.Nat.{ℕ, _<_}
 use mathlib.Core.Path.{subst, subst⁻¹}
 use mathlib.Core.List.{List}
-use lib.ListN.{length}
 use Rattle.state.specs.declared.Sizes.{Sizes}
-use Rattle.layout.specs.Places.{base, Row}
+use Rattle.layout.specs.Places.{Row}
 use Rattle.layout.specs.Cells.{sizesOf}
-use Rattle.layout.proofs.PlaceLaws.{base-room}
+use Rattle.layout.proofs.PlaceLaws.{row-head}
 use Rattle.layout.proofs.RoomLaws.{server-row}
 use Rattle.room.specs.Ready.{InSlot, Ready}
 use Rattle.room.specs.Step.{settled}
-
--- the head of a room is there
-head : (z : Sizes) (cells : List ℕ) → Row z cells → base ≤ length cells
-head z cells r = omega (arith, base-room z (r .fit), r .exact)
 
 -- once the kind of the effect is told, its places are in the room
 abbrev start : tie.After-e → tie.Start
@@ -54,7 +49,7 @@ off-ready : (c : tie.After-e4) → Row (claimed (start4 c)) (cells (start4 c))
 off-ready c = subst (Ready (cells (start4 c))) (c .e4 .given .1) (start4 c .pre)
 
 sizes-requires : tie.Need-sizes-requires
-sizes-requires c κs = head _ _ (record-ready (c .before .before) .row)
+sizes-requires c κs = row-head _ _ (record-ready (c .before .before) .row)
 
 store-server-requires : tie.Need-store-server-requires
 store-server-requires c κs =
@@ -65,7 +60,7 @@ store-server-requires c κs =
     subst⁻¹ (λ (z : Sizes). Row z (cells (start told)) × (s < z .slots) × (p < z .servers)) (c .before .sizes .ensures) (i .row, i .slot, i .server)
 
 sizes-requires-2 : tie.Need-sizes-requires-2
-sizes-requires-2 c κs = head _ _ (block-ready (c .before .before) .0 .row)
+sizes-requires-2 c κs = row-head _ _ (block-ready (c .before .before) .0 .row)
 
 -- the places of a block to be written, by the sizes that were read
 abbrev told2 : tie.After-sizes2 → tie.After-e2
@@ -102,7 +97,7 @@ store-block-requires c κs =
     )
 
 sizes-requires-3 : tie.Need-sizes-requires-3
-sizes-requires-3 c κs = head _ _ (failure-ready (c .before .before) .0)
+sizes-requires-3 c κs = row-head _ _ (failure-ready (c .before .before) .0)
 
 fail-requires : tie.Need-fail-requires
 fail-requires c κs =
@@ -111,7 +106,7 @@ fail-requires c κs =
     subst⁻¹ (λ (z : Sizes). Row z (cells (start3 told)) × (p < z .servers)) (c .before .sizes3 .ensures) (failure-ready told)
 
 slice-write-room : tie.Need-slice-write-room
-slice-write-room c = let h = head _ _ (off-ready (c .before)) in omega arith
+slice-write-room c = let h = row-head _ _ (off-ready (c .before)) in omega arith
 
 returns : tie.Need-returns
 unfolding settled

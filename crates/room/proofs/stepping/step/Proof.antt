@@ -12,12 +12,11 @@ use Rattle.room.proofs.ReadyLaws.{judged-ready}
 returns : tie.Need-returns
 unfolding answered stepped
 returns c =
-    let at-answer = c .answer in
-    let at-judge = c .before .before .before .before .before .judge in
-    let at-settle = c .before .before .before .settle in
-    let at-args = c .before .before .before .before .before .before .before .before .args in (
-      at-answer .ensures ∙ ap answerOf (at-judge .ensures),
-      at-settle .ensures ∙ ap (settled (sizesOf (at-args .room .now)) (at-args .room .now)) (at-judge .ensures),
+    let stored = c .before .before .before in
+    let judged = stored .before .before in
+    let room = judged .before .before .before .args .room .now in (
+      c .answer .ensures ∙ ap answerOf (judged .judge .ensures),
+      stored .settle .ensures ∙ ap (settled (sizesOf room) room) (judged .judge .ensures),
     )
 
 pub step-spec : {M : Type 1} → statement M
