@@ -6,7 +6,7 @@
 
 #define SERVERS 2
 #define DRIVES 3
-#define SLOTS 1
+#define SLOTS 2
 
 /* The coin: piece 5 enters hoard 9. */
 #define COIN REGISTER_ENTER(5, 9)
@@ -21,7 +21,29 @@ static int refused(const char *what, uint32_t refusal)
     return 1;
 }
 
-/* Writes a step's record, takes the step, and prints its answer. */
+/* The lowest slot that is free for a server; SLOTS, which is beyond the room, where none is. */
+static uint32_t ask(uint32_t server)
+{
+    uint64_t answer = register_ask(room, cells, server);
+    if (REGISTER_WORD(answer) == REGISTER_REFUSED) {
+        refused("ask", REGISTER_NUMBER(answer));
+        return SLOTS;
+    }
+    printf("ask, server %" PRIu32 ": slot %" PRIu32 "\n", server, REGISTER_NUMBER(answer));
+    return REGISTER_NUMBER(answer);
+}
+
+/* Offers a command in a slot that is free for the server. */
+static int put(uint32_t server, uint32_t slot, uint32_t command)
+{
+    uint64_t answer = register_put(room, cells, server, slot, command);
+    if (REGISTER_WORD(answer) == REGISTER_REFUSED)
+        return refused("put", REGISTER_NUMBER(answer));
+    printf("put, server %" PRIu32 ", slot %" PRIu32 ": done\n", server, slot);
+    return 0;
+}
+
+/* Writes the record of a step in slot 0, takes the step, and prints its answer. */
 static int step(uint32_t kind, uint8_t server, uint8_t drive, uint8_t other, uint32_t number)
 {
     static const char *const kinds[] = {"no step", "offer",  "recall", "rejoin",    "bid",     "write",
@@ -83,9 +105,11 @@ int main(void)
     if (refusal != 0)
         return refused("open", refusal);
     printf("a room of %zu cells\n", cells);
-    /* Server 0 offers the coin and settles it on drives 0 and 1. Then drive 0 goes off:
-     * server 1 offers nothing, and settles the same command on drives 1 and 2. */
-    int bad = step(REGISTER_OFFER, 0, 0, 0, COIN);
+    /* Server 0 asks for a line, is given slot 0, and puts the coin there; the next line is
+     * slot 1. It settles the coin on drives 0 and 1. Then drive 0 goes off: server 1 offers
+     * nothing, and settles the same command on drives 1 and 2. */
+    int bad = put(0, ask(0), COIN);
+    bad |= ask(0) != 1;
     bad |= settle(0, 1, 0);
     bad |= step(REGISTER_DRIVE_OFF, 0, 0, 0, 0);
     bad |= settle(1, 2, 1);

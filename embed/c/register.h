@@ -57,6 +57,8 @@ extern "C" {
 #define REGISTER_E_NO_BALLOT_LEFT 13u
 #define REGISTER_E_CUT_SHORT 14u
 #define REGISTER_E_MALFORMED 15u
+#define REGISTER_E_NOT_FREE 16u
+#define REGISTER_E_NO_FREE_SLOT 17u
 
 /* A sentence for a refusal, "unknown refusal" for any other number. */
 static inline const char *register_message(uint32_t refusal)
@@ -92,6 +94,10 @@ static inline const char *register_message(uint32_t refusal)
         return "the record is cut short";
     case REGISTER_E_MALFORMED:
         return "the record is malformed";
+    case REGISTER_E_NOT_FREE:
+        return "the slot is not free: the server offers a command there or has settled it";
+    case REGISTER_E_NO_FREE_SLOT:
+        return "no slot is free for the server";
     default:
         return "unknown refusal";
     }
@@ -172,6 +178,16 @@ uint32_t register_open(uint32_t *row, size_t cells, uint32_t servers, uint32_t d
  * refused; its number is 0, the ballot found, the command, the command, or the
  * refusal: 3 to 15. A record that cannot be read is refused with 14 or 15. */
 uint64_t register_step(uint32_t *room, size_t cells, const uint8_t *bytes, size_t length);
+
+/* Asks for the lowest slot that is free for the server: it offers nothing there and is
+ * not in phase 3. No cell changes. The answer's word is done and its number the slot, or
+ * it is refused with 3, 4 or 17. */
+uint64_t register_ask(const uint32_t *room, size_t cells, uint32_t server);
+
+/* Offers the command, as an Offer does, but only in a slot that is free for the server.
+ * The slot that its register_ask named is free until another call on the room. The answer
+ * is 0, or refused with 3, 4, 5 or 16. */
+uint64_t register_put(uint32_t *room, size_t cells, uint32_t server, uint32_t slot, uint32_t command);
 
 /* Writes what one server knows to `out`, of which there are `length` cells, which must
  * be 64: each piece's hoard, 0 for a piece that has none, REGISTER_STRUCK for one that

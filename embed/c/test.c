@@ -45,14 +45,14 @@ static void commands(void)
 
 static void messages(void)
 {
-    for (uint32_t refusal = 1; refusal <= 15; refusal++) {
+    for (uint32_t refusal = 1; refusal <= 17; refusal++) {
         CHECK(strlen(register_message(refusal)) > 10);
         CHECK(strcmp(register_message(refusal), "unknown refusal") != 0);
         for (uint32_t lower = 1; lower < refusal; lower++)
             CHECK(strcmp(register_message(refusal), register_message(lower)) != 0);
     }
     CHECK(strcmp(register_message(0), "unknown refusal") == 0);
-    CHECK(strcmp(register_message(16), "unknown refusal") == 0);
+    CHECK(strcmp(register_message(18), "unknown refusal") == 0);
     CHECK(strcmp(register_message(UINT32_MAX), "unknown refusal") == 0);
 }
 
@@ -245,6 +245,101 @@ static void struck(void)
         CHECK(out[piece] == (piece == 5 ? REGISTER_STRUCK : 0));
 }
 
+/* A room of one server, one drive and three slots: 43 cells. */
+static uint32_t three[43];
+
+/* The answer of a call that is refused with this number. */
+static uint64_t refused_with(uint32_t refusal)
+{
+    return ((uint64_t)REGISTER_REFUSED << 32) + refusal;
+}
+
+/* Ask gives this answer, and every cell stays. */
+static void asks(uint64_t expected, uint32_t server)
+{
+    uint32_t before[43];
+    memcpy(before, three, sizeof three);
+    CHECK(register_ask(three, 43, server) == expected);
+    CHECK(memcmp(before, three, sizeof three) == 0);
+}
+
+/* Put is refused with this number, and every cell stays. */
+static void no_put(uint32_t refusal, uint32_t server, uint32_t slot, uint32_t command)
+{
+    uint32_t before[43];
+    memcpy(before, three, sizeof three);
+    CHECK(register_put(three, 43, server, slot, command) == refused_with(refusal));
+    CHECK(memcmp(before, three, sizeof three) == 0);
+}
+
+/* Put is done, and the server's offer in the slot is all that changes. */
+static void put(uint32_t slot, uint32_t command)
+{
+    uint32_t wanted[43];
+    memcpy(wanted, three, sizeof three);
+    wanted[register_server_at(1, 1, 3, 0, slot) + REGISTER_SERVER_OFFER] = command;
+    CHECK(register_put(three, 43, 0, slot, command) == 0);
+    CHECK(memcmp(wanted, three, sizeof three) == 0);
+}
+
+/* The slots that are free: the lowest is named and can be filled once. */
+static void free_slots(void)
+{
+    static const uint8_t fail[] = {0x00, 0x08};
+    CHECK(register_open(three, 43, 1, 1, 3) == 0);
+    asks(0, 0);
+    put(0, constants[0]);
+    no_put(REGISTER_E_NOT_FREE, 0, 0, constants[1]);
+    asks(1, 0);
+    put(2, constants[1]);
+    asks(1, 0);
+    /* Offer is done where Put is refused. Slot 0 is settled, and not free. */
+    settle(three, 43, 0, constants[2]);
+    no_put(REGISTER_E_NOT_FREE, 0, 0, constants[0]);
+    put(1, constants[2]);
+    asks(refused_with(REGISTER_E_NO_FREE_SLOT), 0);
+    /* After a failure every slot is free again, the settled one too. */
+    CHECK(register_step(three, 43, fail, sizeof fail) == 0);
+    asks(0, 0);
+    put(0, constants[0]);
+    /* Without an offer a slot is free in each phase but 3. */
+    for (uint32_t phase = 0; phase <= 3; phase++) {
+        CHECK(register_open(three, 43, 1, 1, 3) == 0);
+        three[register_server_at(1, 1, 3, 0, 0) + REGISTER_SERVER_PHASE] = phase;
+        asks(phase == 3 ? 1 : 0, 0);
+        if (phase == 3)
+            no_put(REGISTER_E_NOT_FREE, 0, 0, constants[0]);
+        else
+            put(0, constants[0]);
+    }
+}
+
+/* Ask and Put are refused in the order of their checks. */
+static void no_free_slot(void)
+{
+    CHECK(register_open(three, 43, 1, 1, 3) == 0);
+    for (uint32_t slot = 0; slot < 3; slot++)
+        put(slot, constants[0]);
+    asks(refused_with(REGISTER_E_NO_FREE_SLOT), 0);
+    no_put(REGISTER_E_NOT_FREE, 0, 1, constants[0]);
+    no_put(REGISTER_E_NOT_A_COMMAND, 0, 1, REGISTER_ENTER(63, 61));
+    no_put(REGISTER_E_BEYOND, 1, 1, 0);
+    no_put(REGISTER_E_BEYOND, 0, 3, 0);
+    asks(refused_with(REGISTER_E_BEYOND), 1);
+    for (size_t i = 0; i < BEYOND; i++) {
+        asks(refused_with(REGISTER_E_BEYOND), beyond[i]);
+        no_put(REGISTER_E_BEYOND, beyond[i], 0, 0);
+        no_put(REGISTER_E_BEYOND, 0, beyond[i], 0);
+    }
+    for (size_t cells = 0; cells < 43; cells++) {
+        CHECK(register_ask(three, cells, 1) == refused_with(REGISTER_E_CELLS));
+        CHECK(register_put(three, cells, 1, 3, 0) == refused_with(REGISTER_E_CELLS));
+    }
+    three[REGISTER_OFF_MARKS] = 2;
+    asks(refused_with(REGISTER_E_CELLS), UINT32_MAX);
+    no_put(REGISTER_E_CELLS, UINT32_MAX, UINT32_MAX, 0);
+}
+
 /* The fields that each kind has: 1 server, 2 slot, 4 drive, 8 other, 16 number. */
 static const uint8_t masks[] = {0, 19, 7, 19, 19, 7, 15, 3, 1, 4, 4};
 
@@ -294,6 +389,8 @@ int main(void)
     two_drives();
     rows();
     struck();
+    free_slots();
+    no_free_slot();
     records();
     printf("%d failed\n", failures);
     return failures != 0;

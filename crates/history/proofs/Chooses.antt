@@ -9,12 +9,12 @@ use borrow.Author.Tests.{eqb-true, eq-eqb}
 use Rattle.lemmas.proofs.Tests.{by-test}
 use Rattle.state.specs.declared.Answer.{Answer}
 use Rattle.state.specs.declared.Step.{Step}
-use Rattle.state.specs.declared.Step.the-variants.{Finish}
+use Rattle.state.specs.declared.Step.the-variants.{Offer, Finish}
 use Rattle.state.specs.Answers.{codeOf}
 use Rattle.room.specs.Step.{answered}
 use Rattle.step_laws.proofs.Commits.{only-finish}
-use Rattle.history.specs.Calls.{Call, Steps, eventOf}
-use Rattle.history.specs.Run.{Move, Chooses, Rests, committed, moveOf, moveIn, WhenChooses}
+use Rattle.history.specs.Calls.{Call, Steps, Asks, Puts, eventOf}
+use Rattle.history.specs.Run.{Move, Offers, Chooses, Rests, accepted, committed, moveOf, moveIn, WhenChooses}
 use Rattle.history.proofs.Choosers.{chooses-map, tested, chooser}
 
 -- a Finish that commits chooses, in its slot
@@ -47,8 +47,16 @@ step-finishes t cells st =
     (λ q s. record { call = ap Steps s; commits = subst (λ (x : Step). committed (answered cells x) ≡ true) s e }) is)
     (λ e. chooses-map m _ _ (λ q c. absurd (true≢false (sym (c .by) ∙ e))) (chooser t st a))
 
+-- an Offer makes no Choose, whatever its answer
+offers-only : (t p s v : ℕ) (a : Answer) (A : ℕ → Type 0) → WhenChooses (moveOf t (Offer p s v) a) A
+unfolding moveOf
+offers-only t p s v a A =
+    tested (eqb s t) (cond (accepted a) (Offers p v) Rests) A (λ e. tested (accepted a) (Offers p v) A (λ k. tt))
+
 by-finish : (t : ℕ) (cells : List ℕ) (c : Call) → WhenChooses (moveIn t (eventOf cells c)) (ByFinish t cells c)
 by-finish t cells (Steps st) = step-finishes t cells st
+by-finish t cells (Asks p) = tt
+by-finish t cells (Puts p s v) = offers-only t p s v _ _
 
 -- nothing else chooses
 pub choose-is-finish : (t p : ℕ) (cells : List ℕ) (c : Call) → moveIn t (eventOf cells c) ≡ Chooses p → ByFinish t cells c p

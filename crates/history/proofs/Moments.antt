@@ -9,6 +9,7 @@ use Rattle.state.specs.declared.Answer.{Answer}
 use Rattle.state.specs.declared.Answer.the-variants as answer
 use Rattle.state.specs.declared.Sizes.{Sizes}
 use Rattle.state.specs.declared.Step.{Step}
+use Rattle.state.specs.declared.Step.the-variants.{Offer}
 use Rattle.synod.specs.declared.Ruling.{Ruling}
 use Rattle.synod.specs.Arguments.{placesFit, commandFits}
 use Rattle.synod.proofs.Machine.{ruled, after, Fits}
@@ -24,13 +25,15 @@ use Rattle.room.specs.declared.effect.Effect.{Effect}
 use Rattle.room.specs.declared.effect.Effect.the-variants.{Refused}
 use Rattle.room.specs.Judge.{seen, effectOf, judged, answerOf}
 use Rattle.room.specs.Step.{settled, answered, stepped}
+use Rattle.free_slots.specs.Put.{putJudged, putAnswered, putCells}
 use Rattle.room.proofs.Checks.{by-checks}
+use Rattle.free_slots.proofs.PutLaws.{by-put}
 use Rattle.step_laws.specs.Concerns.{concerns}
 use Rattle.step_laws.proofs.Slots.{afterAt}
 use Rattle.step_laws.proofs.StoresKeep.{Whole}
 use Rattle.step_laws.proofs.StepKeeps.{effect-kept}
 use Rattle.step_laws.proofs.SlotTie.{slot-tie}
-use Rattle.history.specs.Calls.{Call, Steps, Event, eventOf, called}
+use Rattle.history.specs.Calls.{Call, Steps, Asks, Puts, Event, eventOf, called}
 use Rattle.history.specs.Run.{Move, Rests, moveOf, moveIn, outputIn, outputBy, WhenChooses}
 use Rattle.history.proofs.SlotMoves.{Moves, rests}
 use Rattle.step_laws.proofs.Lowest.{answerBy}
@@ -149,16 +152,27 @@ module _ (z : Sizes) (cells : List ℕ) (g : ℕ → Ghost) (σ : ℕ → Slot) 
   unfolding settled
   leads-refused st n = refused-next (limitsOf cells) z cells g σ now st n
 
+  leads-effect
+      : (st : Step) → placesFit (sizesOf cells) st ≡ true → commandFits (limitsOf cells) st ≡ true
+      → Leads st (effectOf (sizesOf cells) cells st)
+  leads-effect st b c =
+      let same = now .whole .sizes in
+      subst (λ (y : Sizes). Leads st (effectOf y cells st)) (sym same)
+      (effect-next (limitsOf cells) z cells g σ now st (ap (λ (y : Sizes). placesFit y st) (sym same) ∙ b) c)
+
   leads-judged : (st : Step) → Leads st (judged cells st)
   leads-judged st =
-      let same = now .whole .sizes in
       by-checks cells st (Leads st)
       (λ a. leads-refused st 3)
       (λ a b. leads-refused st 4)
       (λ a b c. leads-refused st 5)
-      (λ a b c.
-      subst (λ (y : Sizes). Leads st (effectOf y cells st)) (sym same)
-      (effect-next (limitsOf cells) z cells g σ now st (ap (λ (y : Sizes). placesFit y st) (sym same) ∙ b) c))
+      (λ a b c. leads-effect st b c)
+
+  -- a Put that is judged leads where the Offer does
+  leads-put : (p s v : ℕ) → Leads (Offer p s v) (putJudged cells p s v)
+  leads-put p s v =
+      let st = Offer p s v in
+      by-put cells p s v (Leads st) (λ n h. leads-refused st n) (λ a b c d. unfold placesFit commandFits in leads-effect st b c)
 
   -- the effect is stored by the room's own sizes
   stored : (st : Step) (e : Effect) → Leads st e → AfterStep (limitsOf cells) z g σ st (answerOf e) (settled (sizesOf cells) cells e)
@@ -167,5 +181,8 @@ module _ (z : Sizes) (cells : List ℕ) (g : ℕ → Ghost) (σ : ℕ → Slot) 
 
   -- a call leads from a moment to the next
   pub next : (c : Call) → After (limitsOf cells) z g σ (eventOf cells c) (called cells c)
-  unfolding answered stepped outputBy
+  unfolding answered stepped putAnswered putCells outputBy
   next (Steps st) = stored st (judged cells st) (leads-judged st)
+  next (Asks p) =
+      record { ghosts = g; slots = σ; moment = now; moves = λ t l. rests (g t) (σ t); within = λ t. tt }
+  next (Puts p s v) = stored (Offer p s v) (putJudged cells p s v) (leads-put p s v)

@@ -94,8 +94,8 @@ WhenChooses (Chooses p) A = A p
 WhenChooses (Fails p) A = Unit {0}
 WhenChooses Rests A = Unit {0}
 
--- every committed answer is with a command that was offered for its slot by an accepted Offer at an earlier step: seen
--- holds the commands offered before the history begins
+-- every committed answer is with a command that was offered for its slot by an accepted Offer or Put at an earlier call:
+-- seen holds the commands offered before the history begins
 unfoldable pub OfferedEarlier : ℕ → List ℕ → List Event → Type 0
 OfferedEarlier t seen [] = Unit {0}
 OfferedEarlier t seen (e ∷ h) =

@@ -2,6 +2,8 @@
 use Prim.Native.Nat.{ℕ, _+_, _*_}
 use Rattle.state.specs.declared.Answer.{Answer}
 use Rattle.state.specs.Answers.{codeOf, numberOf}
+use Rattle.free_slots.specs.declared.asking.Asking.{Asking}
+use Rattle.free_slots.specs.declared.asking.Asking.the-variants as asking
 use Rattle.record.specs.declared.Reading.{Reading}
 use Rattle.record.specs.declared.Reading.the-variants as reading
 use Rattle.record.specs.declared.Writing.{Writing}
@@ -18,6 +20,11 @@ packedAnswer a = packed (codeOf a) (numberOf a)
 
 abbrev pub refusedWord : ℕ
 refusedWord = 4
+
+-- ask: the slot
+abbrev pub packedAsking : Asking → ℕ
+packedAsking (asking.Free s) = packed 0 s
+packedAsking (asking.Refused n) = packed refusedWord n
 
 -- catalogue: taken and skipped, a byte for the second
 abbrev pub packedListing : Listing → ℕ

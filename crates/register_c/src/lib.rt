@@ -6,12 +6,15 @@ ghost use lib.ListN.{length};
 ghost use Rattle.state.specs.Sizes.{sizes};
 ghost use Rattle.layout.specs.Places.{lengthOf, serverPlace, blockPlace};
 ghost use Rattle.room.specs.Open.{openRefusal, opening, opened};
+ghost use Rattle.free_slots.specs.Ask.{asked};
+ghost use Rattle.free_slots.specs.Put.{putAnswered, putCells};
 ghost use Rattle.record.specs.Fields.{fields};
 ghost use Rattle.record.specs.Read.{readingOf};
 ghost use Rattle.record.specs.Write.{writingFrom, writtenFrom};
 ghost use Rattle.catalogue.specs.Call.{catalogueOf, catalogueCells};
-ghost use Rattle.register_c.specs.Packing.{packed, packedAnswer, packedListing, packedReading, packedWriting};
+ghost use Rattle.register_c.specs.Packing.{packed, packedAnswer, packedAsking, packedListing, packedReading, packedWriting};
 ghost use Rattle.register_c.specs.Calls.{recordAnswered, recordStepped, fieldCells, fieldsReading, fieldsRead};
+use register::Asking;
 use register::Fields;
 use register::Found;
 use register::Listing;
@@ -98,6 +101,26 @@ pub extern "C" fn register_step(room: &mut [u32], bytes: &[u8]) -> u64
         Reading::Decoded(step, _) => answer_word(register::step(room, step)),
         Reading::Refused(number) => pack(REFUSED, number),
     }
+}
+
+// The lowest slot that is free for a server, or the refusal.
+#[no_mangle]
+pub extern "C" fn register_ask(room: &[u32], server: u32) -> u64
+    ensures { λ r. ⌜ r ≡ packedAsking (asked (now (room .entry)) server) ⌝ }
+{
+    match register::ask(room, server) {
+        Asking::Free(slot) => slot as u64,
+        Asking::Refused(number) => pack(REFUSED, number),
+    }
+}
+
+// Offers a command in a slot that is free for the server.
+#[no_mangle]
+pub extern "C" fn register_put(room: &mut [u32], server: u32, slot: u32, command: u32) -> u64
+    ensures { λ r. ⌜ (r ≡ packedAnswer (putAnswered (now (room .entry)) server slot command))
+        × (now (room .exit) ≡ putCells (now (room .entry)) server slot command) ⌝ }
+{
+    answer_word(register::put(room, server, slot, command))
 }
 
 // Writes the catalogue of one server.

@@ -1,7 +1,7 @@
 -- The server record, the ways in which it changes, and what it shows (SPEC, "The room in memory", "The ten steps", "The
 -- one-value machine"). The three with… are the only places that name every cell of a changed record.
 use Prim.Native.Nat.{ℕ}
-use mathlib.Core.Bool.{cond}
+use mathlib.Core.Bool.{Bool, not, _&&_, cond}
 use lib.Dec.{eqb}
 use Rattle.state.specs.declared.Block.{Block}
 use Rattle.state.specs.declared.Server.{Server}
@@ -75,3 +75,7 @@ outputOf v = cond (eqb (v .phase) 3) (v .inp) 0
 -- the command that the server offers: 0 is none
 abbrev pub offerOf : Server → ℕ
 offerOf v = v .offer
+
+-- whether the slot is free for the server: it offers nothing there and is not in phase 3
+abbrev pub isFree : Server → Bool
+isFree v = eqb (offerOf v) 0 && not (eqb (v .phase) 3)

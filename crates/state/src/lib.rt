@@ -1,7 +1,7 @@
 // What the algorithm is about, by value: a block, a server's record, a step, an answer.
 ghost use mathlib.Core.Path.{_≡_};
 ghost use Rattle.state.specs.Block.{ballotFits};
-ghost use Rattle.state.specs.Server.{withOwn, cleared, failed, ownBlock, outputOf};
+ghost use Rattle.state.specs.Server.{withOwn, cleared, failed, ownBlock, outputOf, isFree};
 ghost use Rattle.state.specs.Answers.{codeOf, numberOf};
 
 // How many servers, drives and slots a room has.
@@ -101,6 +101,13 @@ impl Server {
         ensures { λ r. ⌜ r ≡ outputOf self ⌝ }
     {
         if self.phase == 3 { self.inp } else { 0 }
+    }
+
+    // Whether the slot is free for this server: it offers nothing there and is not in phase 3.
+    pub fn is_free(self) -> bool
+        ensures { λ r. ⌜ r ≡ isFree self ⌝ }
+    {
+        (self.offer == 0) & (self.phase != 3)
     }
 }
 

@@ -15,6 +15,8 @@ use Rattle.range.specs.Range.{legalDrives, legalReads, valueFits, numbersFit, s
 use Rattle.room.specs.Open.{openChecks, openedCells, opening, opened}
 use Rattle.room.specs.Judge.{effectOf, stepChecks, judged}
 use Rattle.room.specs.Step.{failedBelow, settled, answered, stepped}
+use Rattle.free_slots.specs.Ask.{freeAt, firstFrom, lowestFree, askChecks, asked}
+use Rattle.free_slots.specs.Put.{putRule, putJudged, putAnswered, putCells}
 use Rattle.catalogue.specs.Call.{entriesOf, catalogueChecks, catalogueOf, catalogueCells}
 use Rattle.catalogue.specs.Entry.{applies, entry}
 use Rattle.catalogue.specs.Fold.{cellsAfter, skippedBy, folded}
@@ -23,12 +25,12 @@ use Rattle.starred.specs.Runs.{newRoom}
 use Rattle.history.specs.Run.{ran, history, moveOf, outputBy, firstOutput}
 use Rattle.register.specs.OneHistory.{commandsOf}
 use Rattle.witness.specs.Example.{callsOf, said, Worked}
-use Rattle.witness.specs.Runs.{survivor, rivals, gap, halves, strikes, reuses}
+use Rattle.witness.specs.Runs.{survivor, rivals, gap, halves, asks, strikes, reuses}
 use Rattle.witness.proofs.Reading.{Computed, holds}
 
--- the line names all that the definitions of open, step and catalogue are made of
-computed : Computed survivor × Computed rivals × Computed gap × Computed halves × Computed strikes × Computed reuses
-unfolding survivor rivals gap halves strikes reuses newRoom callsOf ran history onesIn ones
+-- the lines name all that the definitions of open, step, ask, put and catalogue are made of
+computed : Computed survivor × Computed rivals × Computed gap × Computed halves × Computed asks × Computed strikes × Computed reuses
+unfolding survivor rivals gap halves asks strikes reuses newRoom callsOf ran history onesIn ones
     limitOf hoardFits isCommand owned leastAbove nextOwn stands marked unmarked allBelow size gathered majority within
     placesFit commandFits
     meeting marking topping recalling rejoining bidding writing reading proposing committing
@@ -36,9 +38,10 @@ unfolding survivor rivals gap halves strikes reuses newRoom callsOf ran history 
     slotLength roomLength slotAt serverAt nthBlockAt blockAt sizesFit serverOf putServer blockOf putBlock
     legalDrives legalReads valueFits numbersFit serverFits blockFits serversFit blocksFit slotFits cellsFit inRange
     openedCells openChecks opening opened stepChecks effectOf ruleOf judged failedBelow settled answered stepped
+    freeAt firstFrom lowestFree askChecks asked putRule putJudged putAnswered putCells
     applies entry cellsAfter skippedBy folded outputAt leading outputsOf entriesOf catalogueChecks catalogueOf catalogueCells
     said commandsOf firstOutput outputBy moveOf
-computed = (refl, refl, refl, refl, refl, refl)
+computed = (refl, refl, refl, refl, refl, refl, refl)
 
 -- one server commits and fails, and the other, with another offer, commits the same command
 pub survivor-holds : Worked survivor
@@ -56,10 +59,14 @@ gap-holds = holds gap (computed .2)
 pub halves-hold : Worked halves
 halves-hold = holds halves (computed .3)
 
+-- a command that was put is settled as one that was offered
+pub asks-holds : Worked asks
+asks-holds = holds asks (computed .4)
+
 -- a strike of an entered piece is not skipped
 pub strikes-holds : Worked strikes
-strikes-holds = holds strikes (computed .4)
+strikes-holds = holds strikes (computed .5)
 
 -- an enter, a move and a strike of its number after that are skipped
 pub reuses-holds : Worked reuses
-reuses-holds = holds reuses (computed .5)
+reuses-holds = holds reuses (computed .6)

@@ -11,7 +11,7 @@ use Rattle.catalogue.specs.Call.{catalogueOf, catalogueCells}
 use Rattle.catalogue.specs.Fold.{pieces, folded, start}
 use Rattle.catalogue.specs.declared.Listing.the-variants.{Counted}
 use Rattle.starred.specs.Runs.{newRoom}
-use Rattle.history.specs.Calls.{Call, Steps, Event, Took, asStep}
+use Rattle.history.specs.Calls.{Call, Steps, Asks, Puts, Event, Took, Asked, Put, asStep}
 use Rattle.history.specs.Run.{ran, history}
 use Rattle.register.specs.OneHistory.{commandsOf, OneHistory}
 
@@ -32,6 +32,8 @@ pub record Example : Type 0 where
 
 abbrev pub callOf : Event → Call
 callOf (Took st a) = Steps st
+callOf (Asked p a) = Asks p
+callOf (Put p s v a) = Puts p s v
 
 unfoldable pub callsOf : List Event → List Call
 callsOf [] = []

@@ -1,5 +1,6 @@
--- Four runs of two servers: a command that survives its server, two rivals, a slot beyond an empty one, and half of the
--- drives. Two of one server: a strike, and a struck number that is used again in vain.
+-- Five runs of two servers: a command that survives its server, two rivals, a slot beyond an empty one, half of the
+-- drives, and lines that are asked for and filled. Two of one server: a strike, and a struck number that is used again in
+-- vain.
 use Prim.Native.Nat.{ℕ}
 use mathlib.Core.List.{List, [], _∷_, _++_}
 use lib.ListN.{set, replicate}
@@ -8,7 +9,9 @@ use Rattle.state.specs.declared.Step.the-variants.{Offer, Recall, Rejoin, Write
 use Rattle.catalogue.specs.Entry.{struck}
 use Rattle.catalogue.specs.Fold.{pieces}
 use Rattle.state.specs.Sizes.{sizes}
-use Rattle.history.specs.Calls.{Event, Took}
+use Rattle.free_slots.specs.declared.asking.Asking.the-variants.{Free}
+use Rattle.free_slots.specs.declared.asking.Asking.the-variants as asking
+use Rattle.history.specs.Calls.{Event, Took, Asked, Put}
 use Rattle.witness.specs.Example.{Example}
 
 -- enter piece 5 in hoard 9; enter piece 7 in hoard 3; move piece 5 to hoard 12; strike piece 5
@@ -129,6 +132,29 @@ halves =
       taken = 1 ∷ 1 ∷ [];
       skipped = 0 ∷ 0 ∷ [];
       left = only 5 9 ∷ only 5 9 ∷ [];
+    }
+
+-- Both servers ask, are named slot 0 and put a command there; a second Put is refused. Server 0 settles its own, and server
+-- 1 commits that. Each slot that a server knows to be settled is no longer free for it, with an offer of its own or without
+-- one; after its failure it is.
+unfoldable pub asks : Example
+asks =
+    record {
+      sizes = sizes 2 1 2;
+      run =
+          (Asked 0 (Free 0) ∷ Put 0 0 enter5 Done ∷ Put 0 0 enter7 (Refused 16) ∷ Asked 0 (Free 1) ∷ [])
+          ++ (Asked 1 (Free 0) ∷ Put 1 0 enter7 Done ∷ [])
+          ++ (settles 0 1 0 1 enter5 ++ settles 1 0 0 2 enter5)
+          ++ (Asked 1 (Free 1) ∷ Put 1 1 move5 Done ∷ settles 1 0 1 2 move5)
+          ++ settles 0 1 1 3 move5
+          ++ (Asked 0 (asking.Refused 17) ∷ Put 0 1 enter7 (Refused 16) ∷ [])
+          ++ (Took (Fail 1) Done ∷ Asked 1 (Free 0) ∷ []);
+      chosen = enter5 ∷ enter5 ∷ move5 ∷ move5 ∷ [];
+      committed = enter5 ∷ enter5 ∷ move5 ∷ move5 ∷ [];
+      commands = enter5 ∷ move5 ∷ [];
+      taken = 2 ∷ 0 ∷ [];
+      skipped = 0 ∷ 0 ∷ [];
+      left = only 5 12 ∷ replicate pieces 0 ∷ [];
     }
 
 -- in a room of one server and one drive the server offers v in slot s and commits it

@@ -5,8 +5,14 @@ use other::MOST_CELLS;
 use crate::tables::{Line, On};
 
 /// The largest ratio that each call may have, on the largest room where it takes one.
-const BOUNDS: [(&str, f64); 5] =
-    [("step", 0.80), ("catalogue", 0.80), ("read", 1.00), ("write", 1.40), ("in turn", 0.80)];
+const BOUNDS: [(&str, f64); 6] = [
+    ("step", 0.80),
+    ("ask, put", 0.80),
+    ("catalogue", 0.80),
+    ("read", 1.00),
+    ("write", 1.40),
+    ("in turn", 0.80),
+];
 
 /// Prints a line for each bound, and at last the worst ratio of all tables.
 pub fn print(lines: &[Line]) {

@@ -26,6 +26,17 @@ fn main() {
         tables.line("step", On::Room(sizes, "filled"), measure::steps(rooms::filled(sizes)));
         tables.line("step", On::Room(sizes, "run"), measure::run(rooms::run(sizes)));
     }
+    tables.rooms("Ask and then Put; each judges every cell");
+    for sizes in sizes {
+        let states = [
+            ("empty", rooms::empty(sizes).room),
+            ("filled", rooms::filled(sizes).room),
+            ("run", rooms::run(sizes).last),
+        ];
+        for (state, room) in states {
+            tables.line("ask, put", On::Room(sizes, state), measure::ask_then_put(room, sizes));
+        }
+    }
     tables.rooms("The catalogue of a server");
     for sizes in sizes {
         let states = [

@@ -3,6 +3,7 @@
 
 use std::hint::black_box;
 
+use other::Sizes;
 use register::{Room, Step};
 
 use crate::clock::{side_by_side, Times};
@@ -13,6 +14,9 @@ const ROUNDS: u32 = 400;
 const CALLS: usize = 400;
 /// A call on a record is short, so it has more rounds.
 const RECORD_ROUNDS: u32 = 4_000;
+
+/// Piece 5 enters hoard 9.
+const COIN: u32 = 66_825;
 
 /// Steps that are accepted in any order.
 pub fn steps(work: Work) -> Times {
@@ -68,6 +72,35 @@ fn other_step(room: &mut [u32], record: &[u8]) -> other::Answer {
         Ok((step, _)) => other::step(room, step),
         Err(number) => other::Answer::Refused(number),
     }
+}
+
+/// An Ask of server 0, and a Put in the slot that it names, or in slot 0 where it names
+/// none. The offer is taken back after each.
+pub fn ask_then_put(room: Vec<u32>, sizes: Sizes) -> Times {
+    let slot = other::ask(&room, 0).unwrap_or(0);
+    let offer = sizes.server_at(slot as usize, 0) + 4;
+    let (mut cells, mut theirs) = (room.clone(), room.clone());
+    let times = side_by_side(
+        ROUNDS,
+        CALLS,
+        || {
+            for _ in 0..CALLS {
+                let mut mine = Room::over(black_box(&mut cells[..]));
+                let slot = black_box(mine.ask(0)).unwrap_or(0);
+                _ = black_box(mine.put(0, slot, COIN));
+                cells[offer] = room[offer];
+            }
+        },
+        || {
+            for _ in 0..CALLS {
+                let slot = black_box(other::ask(black_box(&theirs), 0)).unwrap_or(0);
+                _ = black_box(other::put(black_box(&mut theirs), 0, slot, COIN));
+                theirs[offer] = room[offer];
+            }
+        },
+    );
+    assert_eq!(cells, theirs, "the cells differ");
+    times
 }
 
 /// The catalogue of server 0.

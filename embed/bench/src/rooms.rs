@@ -84,15 +84,8 @@ pub struct Run {
 /// 2,000 steps of servers that follow the protocol, from a room just opened.
 pub fn run(sizes: Sizes) -> Run {
     let mut chance = Chance::new(3);
-    let habits = Habits {
-        noise: 20,
-        failures: 2,
-        switches: 5,
-        bids: 2,
-        turn: 40,
-        high: 0,
-        half_off: false,
-    };
+    let habits =
+        Habits { noise: 20, failures: 2, switches: 5, bids: 2, turn: 40, high: 0, half_off: false };
     let mut driver = Driver::new(&mut chance, sizes, habits);
     let first = empty(sizes).room;
     let mut room = first.clone();

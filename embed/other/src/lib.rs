@@ -2,16 +2,18 @@
 //! landed. It was written from these papers and not from the Rattle code, and
 //! is used to check and to time the register.
 //!
-//! The calls are [`open`], [`step`], [`catalogue`], [`read_record`] and
-//! [`write_record`]. [`rehearse`] gives the bytes that the program rehearse
-//! prints. Every refusal is a number of [`refusal`], and a refused call leaves
-//! every lent cell and byte as it was.
+//! The calls are [`open`], [`step`], [`ask`], [`put`], [`catalogue`],
+//! [`read_record`] and [`write_record`]. [`rehearse`] gives the bytes that the
+//! program rehearse prints. Every refusal is a number of [`refusal`], and a
+//! refused call leaves every lent cell and byte as it was.
 //!
-//! [`generator`] makes inputs for rehearse from a seed. It is no part of 01.
+//! [`generator`] makes runs and inputs for rehearse from a seed. It is no part
+//! of 01.
 
 mod ballots;
 mod catalogue;
 mod commands;
+mod free_slots;
 pub mod generator;
 mod records;
 pub mod refusal;
@@ -23,6 +25,7 @@ mod steps;
 pub use ballots::{least_own_above, owner, BALLOT_LIMIT};
 pub use catalogue::{catalogue, PIECES, STRUCK};
 pub use commands::{is_command, Kind};
+pub use free_slots::{ask, put};
 pub use records::{read_record, write_record, LONGEST_RECORD};
 pub use rehearse::{rehearse, INPUT_LIMIT};
 pub use room::{judge, open, room_length, Sizes, MOST_CELLS};

@@ -1,4 +1,4 @@
-//! The refusal numbers of 01, "Who can bring which number".
+//! The refusal numbers of 01, "Who can bring which number", and those of 02.
 
 /// Sizes outside range.
 pub const SIZES: u32 = 1;
@@ -30,3 +30,7 @@ pub const NO_BALLOT_LEFT: u32 = 13;
 pub const CUT_SHORT: u32 = 14;
 /// Record malformed.
 pub const MALFORMED: u32 = 15;
+/// The slot is not free for the server.
+pub const NOT_FREE: u32 = 16;
+/// No slot is free for the server.
+pub const NO_FREE_SLOT: u32 = 17;

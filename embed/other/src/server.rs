@@ -83,6 +83,17 @@ impl Server {
         ]);
     }
 
+    /// Whether the slot is free for the server: it offers nothing there and is
+    /// not in phase 3.
+    pub fn is_free(&self) -> bool {
+        self.offer == 0 && self.phase != 3
+    }
+
+    /// The same server with `command` offered.
+    pub(crate) fn offering(self, command: u32) -> Server {
+        Server { offer: command, ..self }
+    }
+
     /// The same server in `phase`, cleared.
     pub(crate) fn enter(self, phase: u32) -> Server {
         Server {

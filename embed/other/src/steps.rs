@@ -94,7 +94,7 @@ impl View<'_> {
         let place = self.place(server, slot)?;
         check(is_command(command), refusal::NOT_A_COMMAND)?;
         let own = self.load(place);
-        self.store(place, Server { offer: command, ..own });
+        self.store(place, own.offering(command));
         Ok(Answer::Done)
     }
 

@@ -1,4 +1,4 @@
-//! Commands: what an Offer offers.
+//! Commands: what an Offer or a put offers.
 
 use std::fmt;
 

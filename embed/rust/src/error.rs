@@ -46,12 +46,17 @@ pub enum Error {
     CutShort,
     /// 15: a malformed record.
     Malformed,
+    /// 16: the slot is not free for the server, which offers a command there or is
+    /// in phase 3.
+    NotFree,
+    /// 17: no slot is free for the server.
+    NoFreeSlot,
     /// A number that the register does not give.
     Unknown(u32),
 }
 
 /// Each refusal with its number and its text.
-const TEXTS: [(Error, &str); 15] = [
+const TEXTS: [(Error, &str); 17] = [
     (Error::Sizes, "the sizes fit no room: 1 to 4 servers, 1 to 7 drives, 1 to 16 slots"),
     (Error::Length, "the length of the lent cells or bytes is wrong"),
     (Error::Cells, "the lent row is no room, or a cell of it is out of range"),
@@ -73,6 +78,8 @@ const TEXTS: [(Error, &str); 15] = [
     (Error::NoBallotLeft, "the server was outbid and has no ballot left"),
     (Error::CutShort, "the record is cut short"),
     (Error::Malformed, "the record is malformed"),
+    (Error::NotFree, "the slot is not free: the server offers a command there or has settled it"),
+    (Error::NoFreeSlot, "no slot is free for the server"),
 ];
 
 impl Error {
@@ -82,7 +89,7 @@ impl Error {
     /// use register::Error;
     ///
     /// assert_eq!(Error::of(8), Error::DriveOff);
-    /// assert_eq!(Error::of(16), Error::Unknown(16));
+    /// assert_eq!(Error::of(99), Error::Unknown(99));
     /// ```
     #[must_use]
     pub fn of(number: u32) -> Error {

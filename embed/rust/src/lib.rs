@@ -3,8 +3,10 @@
 //!
 //! A [`Room`] is a row of cells. [`Room::step`] takes one [`Step`] in it and
 //! answers with an [`Answer`], [`Room::catalogue`] gives what one server knows of
-//! the pieces. Every call judges every cell first, so that a row from anywhere can
-//! be lent; a call that is refused with an [`Error`] changes nothing.
+//! the pieces. [`Room::ask`] names the slot that a server can fill next, and
+//! [`Room::put`] offers a command there. Every call judges every cell first, so that
+//! a row from anywhere can be lent; a call that is refused with an [`Error`] changes
+//! nothing.
 //!
 //! ```
 //! use register::{Answer, Command, Entry, Room, Step};

@@ -14,6 +14,14 @@ mod library {
             slots: u32,
         ) -> u32;
         pub fn register_step(room: *mut u32, cells: usize, bytes: *const u8, length: usize) -> u64;
+        pub fn register_ask(room: *const u32, cells: usize, server: u32) -> u64;
+        pub fn register_put(
+            room: *mut u32,
+            cells: usize,
+            server: u32,
+            slot: u32,
+            command: u32,
+        ) -> u64;
         pub fn register_catalogue(
             room: *const u32,
             cells: usize,
@@ -97,6 +105,19 @@ pub(crate) fn step(room: &mut [u32], record: &[u8]) -> (u32, u32) {
     halves(unsafe {
         library::register_step(room.as_mut_ptr(), room.len(), record.as_ptr(), record.len())
     })
+}
+
+/// The lowest slot that is free for the server.
+pub(crate) fn ask(room: &[u32], server: u32) -> Result<u32, Error> {
+    // SAFETY: the pointer and the length are those of a slice.
+    accepted(unsafe { library::register_ask(room.as_ptr(), room.len(), server) })
+}
+
+pub(crate) fn put(room: &mut [u32], server: u32, slot: u32, command: u32) -> Result<(), Error> {
+    // SAFETY: the pointer and the length are those of a slice.
+    let answer =
+        unsafe { library::register_put(room.as_mut_ptr(), room.len(), server, slot, command) };
+    accepted(answer).map(|_| ())
 }
 
 /// How many commands were taken, and how many of these were skipped.

@@ -167,6 +167,32 @@ impl<R: AsMut<[u32]>> Room<R> {
         let (word, number) = raw::step(self.row.as_mut(), record);
         Answer::of(word, number)
     }
+
+    /// Offers a command, as [`Step::Offer`] does, but only in a slot that is free for
+    /// the server. The slot that its [`Room::ask`] named is free until another call.
+    ///
+    /// ```
+    /// use register::{Error, Room, Step};
+    ///
+    /// let mut room = Room::open(2, 3, 4)?;
+    /// let slot = room.ask(1)?;
+    /// room.put(1, slot, 66_825)?;
+    /// assert_eq!(room.put(1, slot, 66_826), Err(Error::NotFree));
+    ///
+    /// // A server that failed offers nothing any more.
+    /// room.step(Step::Fail { server: 1 })?;
+    /// assert_eq!(room.put(1, slot, 66_826), Ok(()));
+    /// # Ok::<(), Error>(())
+    /// ```
+    ///
+    /// # Errors
+    ///
+    /// [`Error::Cells`] where the row is no room, [`Error::Beyond`] where it has no
+    /// such server or slot, [`Error::NotACommand`], and [`Error::NotFree`]: of those
+    /// that apply the first.
+    pub fn put(&mut self, server: u32, slot: u32, command: u32) -> Result<(), Error> {
+        raw::put(self.row.as_mut(), server, slot, command)
+    }
 }
 
 impl<R: AsRef<[u32]>> Room<R> {
@@ -174,6 +200,30 @@ impl<R: AsRef<[u32]>> Room<R> {
     #[must_use]
     pub fn cells(&self) -> &[u32] {
         self.row.as_ref()
+    }
+
+    /// The lowest slot that is free for a server: it offers nothing there and is not
+    /// in phase 3.
+    ///
+    /// ```
+    /// use register::{Error, Room};
+    ///
+    /// let mut room = Room::open(2, 3, 2)?;
+    /// assert_eq!(room.ask(0), Ok(0));
+    /// room.put(0, 0, 66_825)?;
+    /// assert_eq!(room.ask(0), Ok(1));
+    /// room.put(0, 1, 66_826)?;
+    /// assert_eq!(room.ask(0), Err(Error::NoFreeSlot));
+    /// assert_eq!(room.ask(1), Ok(0));
+    /// # Ok::<(), Error>(())
+    /// ```
+    ///
+    /// # Errors
+    ///
+    /// [`Error::Cells`] where the row is no room, [`Error::Beyond`] where it has no
+    /// such server, [`Error::NoFreeSlot`] where no slot is free for it.
+    pub fn ask(&self, server: u32) -> Result<u32, Error> {
+        raw::ask(self.row.as_ref(), server)
     }
 
     /// What one server knows of the pieces.

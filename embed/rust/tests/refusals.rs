@@ -40,6 +40,14 @@ fn refusal(mut room: Room, step: Step) -> Error {
     error
 }
 
+/// The refusal of a put, which leaves every cell as it was.
+fn put_refusal(room: &mut Room, server: u32, slot: u32, command: u32) -> Error {
+    let before = room.clone();
+    let error = room.put(server, slot, command).expect_err("the put is refused");
+    assert_eq!(*room, before);
+    error
+}
+
 #[test]
 fn each_is_met() {
     let (server, slot, drive, other) = (0, 0, 0, 1);
@@ -50,6 +58,8 @@ fn each_is_met() {
     let mut silent = bidding(1);
     assert_eq!(silent.step(Step::Write { server, slot, drive }), Ok(Answer::Done));
     assert_eq!(silent.step(read), Ok(Answer::Done));
+    let mut full = bidding(1);
+    assert_eq!(full.put(0, 0, COIN), Ok(()));
     let met = [
         Room::open(1, 8, 1).expect_err("eight drives are too many"),
         Room::open_in(vec![0; 18], 1, 1, 1).expect_err("a room of one has 17 cells").error,
@@ -66,6 +76,8 @@ fn each_is_met() {
         refusal(outbid(1, 1_000_000), read),
         bidding(1).step_record(&[0x01, 0x07]).expect_err("a byte is missing"),
         bidding(1).step_record(&[0x20, 0x07]).expect_err("bit 5 stands"),
+        put_refusal(&mut full, 0, 0, COIN),
+        full.ask(0).expect_err("the one slot has an offer"),
     ];
     for (place, error) in met.into_iter().enumerate() {
         assert_eq!(error.number(), place as u32 + 1, "{error}");
@@ -75,12 +87,33 @@ fn each_is_met() {
 
 #[test]
 fn each_has_a_text_of_its_own() {
-    let texts: BTreeSet<String> = (1..=15).map(|number| Error::of(number).to_string()).collect();
-    assert_eq!(texts.len(), 15);
-    for number in 1..=15 {
+    let texts: BTreeSet<String> = (1..=17).map(|number| Error::of(number).to_string()).collect();
+    assert_eq!(texts.len(), 17);
+    for number in 1..=17 {
         assert!(Error::of(number).to_string().ends_with(&format!(" (refusal {number})")));
     }
     assert_eq!(Error::of(0), Error::Unknown(0));
+}
+
+/// The refusals of ask and put in their order.
+#[test]
+fn ask_and_put_in_order() {
+    let far = [2, 3, 255, 256, 1 << 31, u32::MAX];
+    let mut row = Room::over(vec![9; 17]);
+    let mut full = bidding(1);
+    assert_eq!(full.put(0, 0, COIN), Ok(()));
+    for server in far {
+        assert_eq!(row.ask(server), Err(Error::Cells));
+        assert_eq!(put_refusal(&mut row, server, 9, 0), Error::Cells);
+        assert_eq!(full.ask(server), Err(Error::Beyond));
+        assert_eq!(put_refusal(&mut full, server, 0, 0), Error::Beyond);
+        assert_eq!(put_refusal(&mut full, 0, server, 0), Error::Beyond);
+    }
+    assert_eq!(put_refusal(&mut full, 0, 0, 0), Error::NotACommand);
+    assert_eq!(put_refusal(&mut full, 0, 0, COIN), Error::NotFree);
+    assert_eq!(full.ask(0), Err(Error::NoFreeSlot));
+    // The cells may be lent to look at.
+    assert_eq!(Room::over(full.cells()).ask(1), Ok(0));
 }
 
 /// Two servers, one slot, every answer that a step can have.

@@ -1,6 +1,6 @@
 //! The register beside the other implementation. Each call is made of both; the
 //! answers, and every lent cell and byte, are compared after it. After a refused
-//! call they are compared with what they were before.
+//! call, and after an Ask, they are compared with what they were before.
 
 pub mod hostile;
 mod pair;

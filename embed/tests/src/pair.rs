@@ -1,5 +1,6 @@
 //! One row of cells, lent to both implementations.
 
+use other::generator::{Call, Reply};
 use other::{Answer, Step};
 use register::{Error, NotOpened, Room};
 
@@ -72,6 +73,33 @@ impl Pair {
         theirs
     }
 
+    /// The lowest slot that is free for a server. Every cell stays.
+    pub fn ask(&mut self, server: u32) -> Result<u32, u32> {
+        let theirs = other::ask(&self.theirs, server);
+        let mine = self.mine.ask(server).map_err(Error::number);
+        assert_eq!(mine, theirs, "ask {server}");
+        self.compare(true, Call::Ask { server });
+        theirs
+    }
+
+    /// Offers a command in a slot that is free for the server.
+    pub fn put(&mut self, server: u32, slot: u32, command: u32) -> Result<(), u32> {
+        let theirs = other::put(&mut self.theirs, server, slot, command);
+        let mine = self.mine.put(server, slot, command).map_err(Error::number);
+        assert_eq!(mine, theirs, "put {server} {slot} {command}");
+        self.compare(theirs.is_err(), Call::Put { server, slot, command });
+        theirs
+    }
+
+    /// Makes a call of a run.
+    pub fn call(&mut self, call: Call) -> Reply {
+        match call {
+            Call::Step(step) => Reply::Answer(self.step(step)),
+            Call::Ask { server } => Reply::of_ask(self.ask(server)),
+            Call::Put { server, slot, command } => Reply::of_put(self.put(server, slot, command)),
+        }
+    }
+
     /// The catalogue of a server, in so many cells that hold other numbers.
     pub fn catalogue(&self, server: u32, cells: usize) -> Result<(u32, u32), u32> {
         let old: Vec<u32> = (0..cells as u32).map(|cell| cell ^ 0x5555_5555).collect();
@@ -86,15 +114,16 @@ impl Pair {
         theirs
     }
 
-    /// Compares every cell, after a refusal with those before it.
-    fn compare(&mut self, refused: bool, call: impl std::fmt::Debug) {
+    /// Compares every cell. After a refusal or an Ask the cells are compared with
+    /// those before it, which it keeps.
+    fn compare(&mut self, kept: bool, call: impl std::fmt::Debug) {
         assert!(
             self.mine.cells() == self.theirs,
             "cells differ after {call:?}: {:?}",
             self.difference()
         );
-        if refused {
-            assert!(self.theirs == self.before, "a cell changed at the refusal of {call:?}");
+        if kept {
+            assert!(self.theirs == self.before, "a cell changed at {call:?}, which keeps them all");
         } else {
             self.before.copy_from_slice(&self.theirs);
         }

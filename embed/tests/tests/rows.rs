@@ -9,6 +9,9 @@ use tests::{every_size, numbers, Pair};
 /// Pieces of the commands that are offered.
 const PIECES: [u32; 3] = [5, 17, 63];
 
+/// Piece 5 enters hoard 9.
+const COIN: u32 = 66_825;
+
 /// A step of any kind; most name parts of the room.
 fn some_step(chance: &mut Chance, pair: &Pair, sizes: Sizes) -> other::Step {
     let slot = chance.place(sizes.slots);
@@ -94,6 +97,8 @@ fn one_cell_spoiled() {
                 let step = some_step(&mut chance, &pair, sizes);
                 refused += u32::from(pair.step(step) == Answer::Refused(3));
                 let _ = pair.catalogue(chance.below(servers as u32), 64);
+                let _ = pair.ask(chance.below(servers as u32));
+                let _ = pair.put(chance.below(servers as u32), chance.below(slots as u32), COIN);
                 restore(&mut pair, &kept);
             }
             pair.set(at, good);
@@ -142,6 +147,8 @@ fn wrong_length(chance: &mut Chance, length: usize) {
         let refused = Answer::Refused(3);
         assert_eq!(pair.step(other::Step::DriveOff { drive: 0 }) == refused, !fits);
         assert_eq!(pair.catalogue(0, 64).is_err(), !fits);
+        assert_eq!(pair.ask(0), if fits { Ok(0) } else { Err(3) });
+        assert_eq!(pair.put(0, 0, COIN), if fits { Ok(()) } else { Err(3) });
     }
 }
 

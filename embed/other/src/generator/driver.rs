@@ -88,6 +88,11 @@ impl Driver {
         }
     }
 
+    /// The pieces of most commands of the run.
+    pub(super) fn pieces(&self) -> &[u32] {
+        &self.pieces
+    }
+
     /// The next step of the run, in the room as it stands.
     pub fn next_step(&mut self, chance: &mut Chance, room: &[u32]) -> Step {
         self.acted = false;

@@ -49,7 +49,7 @@ fn byte(chance: &mut Chance, size: usize) -> u8 {
 }
 
 /// A command, now and then a number that is none.
-fn any_command(chance: &mut Chance, pieces: &[u32]) -> u32 {
+pub(super) fn any_command(chance: &mut Chance, pieces: &[u32]) -> u32 {
     match chance.below(8) {
         0 => wrong_command(chance),
         1 => {

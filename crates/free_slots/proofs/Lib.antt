@@ -1,0 +1,3 @@
+-- Laws of ask and put, for the crates above.
+pub mod AskLaws
+pub mod PutLaws
