@@ -57,12 +57,10 @@ pub fn rejoin(servers: u32, drives: u32, v: Server, p: u8, ballot: u32) -> Rulin
     if ballot <= v.top {
         return Ruling::Refused(11);
     }
-    let own = Block {
-        mbal: ballot,
-        bal: v.seenbal,
-        inp: v.seeninp,
-    };
-    Ruling::Accepted(v.with_own(1, own).cleared(), Answer::Done)
+    Ruling::Accepted(
+        v.with_own(1, ballot, v.seenbal, v.seeninp).cleared(),
+        Answer::Done,
+    )
 }
 
 // 4 Bid, phase 1 or 2, the ballot p's and above the own mbal.
@@ -133,15 +131,11 @@ pub fn finish(servers: u32, drives: u32, v: Server, p: u8) -> Ruling
         if command == 0 {
             return Ruling::Refused(12);
         }
-        let own = Block {
-            mbal: v.mbal,
-            bal: v.mbal,
-            inp: command,
-        };
-        return Ruling::Accepted(v.with_own(2, own).cleared(), Answer::Chosen(command));
+        let w = v.with_own(2, v.mbal, v.mbal, command).cleared();
+        return Ruling::Accepted(w, Answer::Chosen(command));
     }
-    let own = v.own_block();
-    Ruling::Accepted(v.with_own(3, own).cleared(), Answer::Committed(v.inp))
+    let w = v.with_own(3, v.mbal, v.bal, v.inp).cleared();
+    Ruling::Accepted(w, Answer::Committed(v.inp))
 }
 
 // A block with a ballot that is not below the own one was found.
@@ -158,12 +152,7 @@ fn outbid(servers: u32, v: Server, p: u8, found: u32) -> Ruling
 fn restart(v: Server, ballot: u32) -> Server
     ensures { λ r. ⌜ r ≡ bidding v ballot ⌝ }
 {
-    let own = Block {
-        mbal: ballot,
-        bal: v.bal,
-        inp: v.inp,
-    };
-    v.with_own(1, own).cleared()
+    v.with_own(1, ballot, v.bal, v.inp).cleared()
 }
 
 // A block met in this phase: a larger bal replaces what was seen.

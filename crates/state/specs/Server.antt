@@ -7,14 +7,14 @@ use Rattle.state.specs.declared.Block.{Block}
 use Rattle.state.specs.declared.Server.{Server}
 use Rattle.state.specs.Block.{block}
 
--- the record in this phase and with this own block
-abbrev pub withOwn : Server → ℕ → Block → Server
-withOwn v phase own =
+-- the record in this phase and with these own mbal, bal and inp
+abbrev pub withOwn : Server → ℕ → ℕ → ℕ → ℕ → Server
+withOwn v phase mbal bal inp =
     record {
       phase = phase;
-      mbal = own .mbal;
-      bal = own .bal;
-      inp = own .inp;
+      mbal = mbal;
+      bal = bal;
+      inp = inp;
       offer = v .offer;
       top = v .top;
       seenbal = v .seenbal;

@@ -53,14 +53,14 @@ pub struct Server {
 }
 
 impl Server {
-    // The record in this phase and with this own block.
-    pub fn with_own(mut self, phase: u32, own: Block) -> Server
-        ensures { λ r. ⌜ r ≡ withOwn self phase own ⌝ }
+    // The record in this phase and with these own mbal, bal and inp.
+    pub fn with_own(mut self, phase: u32, mbal: u32, bal: u32, inp: u32) -> Server
+        ensures { λ r. ⌜ r ≡ withOwn self phase mbal bal inp ⌝ }
     {
         self.phase = phase;
-        self.mbal = own.mbal;
-        self.bal = own.bal;
-        self.inp = own.inp;
+        self.mbal = mbal;
+        self.bal = bal;
+        self.inp = inp;
         self
     }
 
@@ -80,7 +80,8 @@ impl Server {
     pub fn failed(self) -> Server
         ensures { λ r. ⌜ r ≡ failed ⌝ }
     {
-        let mut v = self.with_own(0, Block::BLANK);
+        let own = Block::BLANK;
+        let mut v = self.with_own(0, own.mbal, own.bal, own.inp);
         v.offer = 0;
         v.cleared()
     }

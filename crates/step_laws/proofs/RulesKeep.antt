@@ -57,19 +57,21 @@ module _ (limits : List ℕ) (z : Sizes) where
 
   module _ (v : Server) (s : ServerIn limits (masksOf z) v) where
     -- a record that begins a phase
-    begun-in : (phase : ℕ) (own : Block) → phase ≤ 3 → BlockIn limits own → ServerIn limits (masksOf z) (cleared (withOwn v phase own))
-    begun-in phase own h b =
+    begun-in
+        : (phase mbal bal inp : ℕ) → phase ≤ 3 → mbal ≤ limit → bal ≤ limit → valueFits limits inp ≡ true
+        → ServerIn limits (masksOf z) (cleared (withOwn v phase mbal bal inp))
+    begun-in phase mbal bal inp h m b i =
         record {
           phase = h;
-          mbal = b .mbal;
-          bal = b .bal;
+          mbal = m;
+          bal = b;
           top = omega arith;
-          seenbal = b .bal;
+          seenbal = b;
           written = within-zero (masksOf z .drives);
           read = within-zero (masksOf z .reads);
-          inp = b .inp;
+          inp = i;
           offer = s .offer;
-          seeninp = b .inp;
+          seeninp = i;
         }
 
     -- a record with other notes of its phase
@@ -106,7 +108,7 @@ module _ (limits : List ℕ) (z : Sizes) where
 
     bidding-in : (b : ℕ) → b ≤ limit → ServerIn limits (masksOf z) (bidding v b)
     unfolding bidding
-    bidding-in b h = begun-in 1 _ (omega arith) (record { mbal = h; bal = s .bal; inp = s .inp })
+    bidding-in b h = begun-in 1 _ _ _ (omega arith) h (s .bal) (s .inp)
 
     marking-in : Fit z → (d q : ℕ) → d < z .drives → q < z .servers → ServerIn limits (masksOf z) (marking v d q)
     unfolding marking
@@ -149,7 +151,7 @@ module _ (limits : List ℕ) (z : Sizes) where
     unfolding rejoining
     rejoin-keeps servers drives p b =
         rejoin-cases (Keeps limits z) (λ n. tt) v servers drives p b
-        (λ o e m t. begun-in v s 1 _ (omega arith) (record { mbal = owned-within servers p b o; bal = s .seenbal; inp = s .seeninp }))
+        (λ o e m t. begun-in v s 1 _ _ _ (omega arith) (owned-within servers p b o) (s .seenbal) (s .seeninp))
 
     pub bid-keeps : (servers p b : ℕ) → Keeps limits z (ruling (bidRule servers v p b))
     bid-keeps servers p b =
@@ -177,6 +179,6 @@ module _ (limits : List ℕ) (z : Sizes) where
     finish-keeps servers drives p =
         finish-cases (Keeps limits z) (λ n. tt) v servers drives p
         (λ e m n.
-        begun-in v s 2 _ (omega arith)
-        (record { mbal = s .mbal; bal = s .mbal; inp = pick-value limits (eqb (v .seeninp) 0) (v .offer) (v .seeninp) (s .offer) (s .seeninp) }))
-        (λ e m. begun-in v s 3 _ (omega arith) (own-in v s))
+        begun-in v s 2 _ _ _ (omega arith) (s .mbal) (s .mbal)
+        (pick-value limits (eqb (v .seeninp) 0) (v .offer) (v .seeninp) (s .offer) (s .seeninp)))
+        (λ e m. begun-in v s 3 _ _ _ (omega arith) (s .mbal) (s .bal) (s .inp))

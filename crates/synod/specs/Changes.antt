@@ -5,8 +5,7 @@ use lib.Dec.{ltb}
 use Rattle.quorum.specs.Marks.{marked}
 use Rattle.state.specs.declared.Block.{Block}
 use Rattle.state.specs.declared.Server.{Server}
-use Rattle.state.specs.Block.{block}
-use Rattle.state.specs.Server.{withOwn, withNotes, cleared, ownBlock}
+use Rattle.state.specs.Server.{withOwn, withNotes, cleared}
 
 -- the bit of server q's block on drive d in the read marks
 abbrev pub readBit : ℕ → ℕ → ℕ
@@ -34,11 +33,11 @@ recalling v b p d = meeting (topping (marking v d p) (b .mbal)) b
 
 -- 3 Rejoin: the own block becomes the ballot with the best bal and inp recalled; phase 1; clear
 unfoldable pub rejoining : Server → ℕ → Server
-rejoining v ballot = cleared (withOwn v 1 (block ballot (v .seenbal) (v .seeninp)))
+rejoining v ballot = cleared (withOwn v 1 ballot (v .seenbal) (v .seeninp))
 
 -- 4 Bid: mbal becomes the ballot; phase 1; clear
 unfoldable pub bidding : Server → ℕ → Server
-bidding v ballot = cleared (withOwn v 1 (block ballot (v .bal) (v .inp)))
+bidding v ballot = cleared (withOwn v 1 ballot (v .bal) (v .inp))
 
 -- 5 Write: the drive is marked as written
 unfoldable pub writing : Server → ℕ → Server
@@ -50,8 +49,8 @@ reading v b d q = meeting (marking v d q) b
 
 -- 7 Finish, phase 1: bal becomes mbal, inp the command; phase 2; clear
 unfoldable pub proposing : Server → ℕ → Server
-proposing v command = cleared (withOwn v 2 (block (v .mbal) (v .mbal) command))
+proposing v command = cleared (withOwn v 2 (v .mbal) (v .mbal) command)
 
 -- 7 Finish, phase 2: phase 3; clear
 unfoldable pub committing : Server → Server
-committing v = cleared (withOwn v 3 (ownBlock v))
+committing v = cleared (withOwn v 3 (v .mbal) (v .bal) (v .inp))

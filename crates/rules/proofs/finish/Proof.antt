@@ -59,8 +59,7 @@ returns-4 c =
 returns-5 : tie.Need-returns-5
 unfolding must finishRule committing
 returns-5 c =
-    let at-own-block = c .before .before in
-    let at-if3 = at-own-block .before in
+    let at-if3 = c .before .before in
     let at-if2 = at-if3 .before .before in
     let not-one = ne-eqb _ _ (at-if3 .if3 .left) in
     simp (
@@ -69,7 +68,6 @@ returns-5 c =
       complete at-if2,
       c .cleared2 .ensures,
       c .before .with-own2 .ensures,
-      at-own-block .own-block .ensures,
     )
 
 pub finish-spec : {M : Type 1} → statement M
@@ -79,4 +77,4 @@ finish-spec =
     (search needs) (search needs) returns-2
     (search needs) returns-3
     (search needs) (search needs) returns-4
-    (search needs) (search needs) (search needs) returns-5)
+    (search needs) (search needs) returns-5)
