@@ -1,4 +1,5 @@
-/* Enters a coin on two servers and three drives, and prints the catalogue of each. */
+/* Enters a coin on two servers and three drives, and prints the catalogue of each: one server
+ * settles it, the other learns it. */
 #include "register.h"
 
 #include <inttypes.h>
@@ -72,15 +73,35 @@ static int phase(uint8_t server, uint8_t first)
     return bad | step(REGISTER_FINISH, server, 0, 0, 0);
 }
 
-/* A server comes in with a ballot of its own and settles the slot on two drives. */
-static int settle(uint8_t server, uint32_t ballot, uint8_t first)
+/* A server recalls its blocks on two drives and comes in with a ballot of its own. */
+static int join(uint8_t server, uint32_t ballot, uint8_t first)
 {
     int bad = 0;
     for (uint8_t drive = first; drive < first + 2; drive++)
         bad |= step(REGISTER_RECALL, server, drive, 0, 0);
-    bad |= step(REGISTER_REJOIN, server, 0, 0, ballot);
+    return bad | step(REGISTER_REJOIN, server, 0, 0, ballot);
+}
+
+/* A server settles the slot on two drives in two phases, and tells it there: once the slot is
+ * settled, the block that it writes says what was settled. */
+static int settle(uint8_t server, uint32_t ballot, uint8_t first)
+{
+    int bad = join(server, ballot, first);
     bad |= phase(server, first);
-    return bad | phase(server, first);
+    bad |= phase(server, first);
+    for (uint8_t drive = first; drive < first + 2; drive++)
+        bad |= step(REGISTER_WRITE, server, drive, 0, 0);
+    return bad;
+}
+
+/* A server that comes late learns what was settled: it writes one drive and reads the other
+ * server's block there. The slot is then settled for it too, and it finishes no phase. */
+static int learn(uint8_t server, uint32_t ballot, uint8_t drive)
+{
+    uint8_t other = server == 0 ? 1 : 0;
+    int bad = join(server, ballot, drive);
+    bad |= step(REGISTER_WRITE, server, drive, 0, 0);
+    return bad | step(REGISTER_READ, server, drive, other, 0);
 }
 
 /* Prints the pieces that a server knows to be in a hoard. */
@@ -106,13 +127,13 @@ int main(void)
         return refused("open", refusal);
     printf("a room of %zu cells\n", cells);
     /* Server 0 asks for a line, is given slot 0, and puts the coin there; the next line is
-     * slot 1. It settles the coin on drives 0 and 1. Then drive 0 goes off: server 1 offers
-     * nothing, and settles the same command on drives 1 and 2. */
+     * slot 1. It settles the coin on drives 0 and 1. Then drive 0 goes off, and server 1
+     * learns on drive 1 what was settled. */
     int bad = put(0, ask(0), COIN);
     bad |= ask(0) != 1;
     bad |= settle(0, 1, 0);
     bad |= step(REGISTER_DRIVE_OFF, 0, 0, 0, 0);
-    bad |= settle(1, 2, 1);
+    bad |= learn(1, 2, 1);
     bad |= catalogue(0);
     bad |= catalogue(1);
     return bad;

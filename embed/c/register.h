@@ -24,7 +24,7 @@ extern "C" {
 
 /* The most cells of a room, the cells of a catalogue, the bytes of the longest record,
  * the fields of a record. */
-#define REGISTER_MOST_CELLS 1988
+#define REGISTER_MOST_CELLS 2500
 #define REGISTER_PIECES 64
 #define REGISTER_LONGEST_RECORD 8
 #define REGISTER_FIELDS 6
@@ -103,7 +103,9 @@ static inline const char *register_message(uint32_t refusal)
     }
 }
 
-/* The kinds of step. */
+/* The kinds of step. A server that has settled a slot, which is phase 3, can still write:
+ * its block then tells what was settled. A server in phase 1 or 2 that reads such a block
+ * has learned it: the answer is committed, and the slot is settled for it too. */
 #define REGISTER_OFFER 1u
 #define REGISTER_RECALL 2u
 #define REGISTER_REJOIN 3u
@@ -140,7 +142,9 @@ static inline const char *register_message(uint32_t refusal)
 /* The cell of the off marks: bit d says that drive d is off. */
 #define REGISTER_OFF_MARKS 3u
 
-/* The cells of a server's record, counted from the first. */
+/* The cells of a server's record, counted from the first. Agreed is the command that was
+ * settled, 0 if the server has settled and learned none; in phase 3 it is what a catalogue
+ * takes from the slot. */
 #define REGISTER_SERVER_PHASE 0u
 #define REGISTER_SERVER_MBAL 1u
 #define REGISTER_SERVER_BAL 2u
@@ -151,11 +155,14 @@ static inline const char *register_message(uint32_t refusal)
 #define REGISTER_SERVER_SEENINP 7u
 #define REGISTER_SERVER_WRITTEN 8u
 #define REGISTER_SERVER_READ 9u
+#define REGISTER_SERVER_AGREED 10u
 
-/* The cells of a block, counted from the first. */
+/* The cells of a block, counted from the first. Done is the command that was settled, 0 if
+ * the block does not tell it. */
 #define REGISTER_BLOCK_MBAL 0u
 #define REGISTER_BLOCK_BAL 1u
 #define REGISTER_BLOCK_INP 2u
+#define REGISTER_BLOCK_DONE 3u
 
 /* The number of cells of a room with so many servers (1 to 4), drives (1 to 7) and
  * slots (1 to 16); 0 where the sizes do not fit. */

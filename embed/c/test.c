@@ -1,30 +1,7 @@
 /* What register.h promises, held against the library: constants, macros, messages, every
- * place of every room, every refusal, and that a refused call changes nothing. What is
- * expected is worked out here from docs/SPEC.md. Prints what fails; the status is then 1. */
-#include "register.h"
-
-#include <inttypes.h>
-#include <stdio.h>
-#include <string.h>
-
-static int failures;
-
-static void check(int holds, int line, const char *what)
-{
-    if (!holds) {
-        printf("test.c:%d: %s\n", line, what);
-        failures++;
-    }
-}
-
-#define CHECK(holds) check(holds, __LINE__, #holds)
-
-/* Numbers that are no size and no place. */
-static const uint32_t beyond[] = {5, 8, 17, 255, 256, 65536, UINT32_C(1) << 31, UINT32_MAX};
-#define BEYOND (sizeof beyond / sizeof beyond[0])
-
-/* Macros that make commands serve as constants too. */
-static const uint32_t constants[] = {REGISTER_ENTER(5, 9), REGISTER_MOVE(63, 60), REGISTER_STRIKE(7)};
+ * place of every room, the refusals of every step, and that a refused call changes nothing.
+ * What is expected is worked out here from docs/SPEC.md. */
+#include "test.h"
 
 static void commands(void)
 {
@@ -62,10 +39,10 @@ static void places(uint32_t n, uint32_t d, uint32_t s)
 {
     uint32_t at = 4;
     for (uint32_t slot = 0; slot < s; slot++) {
-        for (uint32_t server = 0; server < n; server++, at += REGISTER_SERVER_READ + 1)
+        for (uint32_t server = 0; server < n; server++, at += REGISTER_SERVER_AGREED + 1)
             CHECK(register_server_at(n, d, s, server, slot) == at);
         for (uint32_t drive = 0; drive < d; drive++)
-            for (uint32_t server = 0; server < n; server++, at += REGISTER_BLOCK_INP + 1)
+            for (uint32_t server = 0; server < n; server++, at += REGISTER_BLOCK_DONE + 1)
                 CHECK(register_block_at(n, d, s, server, slot, drive) == at);
     }
     CHECK(register_length(n, d, s) == at && at <= REGISTER_MOST_CELLS);
@@ -86,7 +63,8 @@ static void sizes(void)
         for (uint32_t d = 1; d <= 7; d++)
             for (uint32_t s = 1; s <= 16; s++)
                 places(n, d, s);
-    CHECK(register_length(4, 7, 16) == REGISTER_MOST_CELLS);
+    CHECK(register_length(1, 1, 1) == 19 && register_length(4, 7, 16) == 2500);
+    CHECK(REGISTER_MOST_CELLS == 2500);
     for (uint32_t n = 0; n <= 5; n++)
         for (uint32_t d = 0; d <= 8; d++)
             for (uint32_t s = 0; s <= 17; s++)
@@ -97,15 +75,15 @@ static void sizes(void)
                 }
 }
 
-/* A room of two servers, one drive and one slot: 30 cells. */
-static uint32_t room[30];
+/* A room of two servers, one drive and one slot: 34 cells. */
+static uint32_t room[34];
 
 static uint64_t step(uint32_t kind, uint8_t server, uint8_t other, uint32_t number)
 {
     uint8_t record[REGISTER_LONGEST_RECORD];
     uint64_t used = register_write((uint8_t)kind, server, 0, 0, other, number, record, sizeof record);
     CHECK(REGISTER_WORD(used) == REGISTER_DONE);
-    return register_step(room, 30, record, REGISTER_NUMBER(used));
+    return register_step(room, 34, record, REGISTER_NUMBER(used));
 }
 
 static void done(uint32_t kind, uint8_t server, uint8_t other, uint32_t number)
@@ -116,7 +94,7 @@ static void done(uint32_t kind, uint8_t server, uint8_t other, uint32_t number)
 /* The step is refused with this number, and every cell stays. */
 static void refused(uint32_t refusal, uint32_t kind, uint8_t server, uint8_t other, uint32_t number)
 {
-    uint32_t before[30];
+    uint32_t before[34];
     memcpy(before, room, sizeof room);
     uint64_t answer = step(kind, server, other, number);
     CHECK(REGISTER_WORD(answer) == REGISTER_REFUSED && REGISTER_NUMBER(answer) == refusal);
@@ -125,7 +103,7 @@ static void refused(uint32_t refusal, uint32_t kind, uint8_t server, uint8_t oth
 
 static void steps(void)
 {
-    CHECK(register_open(room, 30, 2, 1, 1) == 0);
+    CHECK(register_open(room, 34, 2, 1, 1) == 0);
     refused(REGISTER_E_BEYOND, REGISTER_OFFER, 2, 0, constants[0]);
     refused(REGISTER_E_NOT_A_COMMAND, REGISTER_OFFER, 0, 0, REGISTER_ENTER(63, 61));
     refused(REGISTER_E_NOT_ITS_BALLOT, REGISTER_REJOIN, 0, 0, 2);
@@ -156,20 +134,20 @@ static void steps(void)
     CHECK(room[at + REGISTER_BLOCK_MBAL] == 1000000 && room[at + REGISTER_BLOCK_INP] == 0);
 }
 
-/* A step of the one server of a shelf of two drives: 20 cells. */
+/* A step of the one server of a shelf of two drives: 23 cells. */
 static uint64_t on_shelf(uint32_t *shelf, uint32_t kind, uint8_t drive, uint32_t number)
 {
     uint8_t record[REGISTER_LONGEST_RECORD];
     uint64_t used = register_write((uint8_t)kind, 0, 0, drive, 0, number, record, sizeof record);
-    return register_step(shelf, 20, record, REGISTER_NUMBER(used));
+    return register_step(shelf, 23, record, REGISTER_NUMBER(used));
 }
 
 /* Of two drives, drive 0 alone is enough for Rejoin and Finish, and drive 1 alone is not. */
 static void two_drives(void)
 {
-    static const uint64_t refused_10 = ((uint64_t)REGISTER_REFUSED << 32) + REGISTER_E_NO_MAJORITY;
-    uint32_t shelf[20];
-    CHECK(register_open(shelf, 20, 1, 2, 1) == 0);
+    const uint64_t refused_10 = refused_with(REGISTER_E_NO_MAJORITY);
+    uint32_t shelf[23];
+    CHECK(register_open(shelf, 23, 1, 2, 1) == 0);
     CHECK(on_shelf(shelf, REGISTER_OFFER, 0, constants[0]) == 0);
     CHECK(on_shelf(shelf, REGISTER_RECALL, 1, 0) == 0);
     CHECK(on_shelf(shelf, REGISTER_REJOIN, 0, 1) == refused_10);
@@ -190,154 +168,44 @@ static void two_drives(void)
 /* Rows and lengths that are wrong. */
 static void rows(void)
 {
-    uint32_t row[31], before[31], out[65], old[65];
+    uint32_t row[35], before[35], out[65], old[65];
     memset(row, 7, sizeof row);
     memcpy(before, row, sizeof row);
-    CHECK(register_open(row, 30, 0, 1, 1) == REGISTER_E_SIZES && register_open(row, 30, 2, 8, 1) == REGISTER_E_SIZES);
-    CHECK(register_open(row, 31, 2, 1, 1) == REGISTER_E_LENGTH && register_open(row, 0, 2, 1, 1) == REGISTER_E_LENGTH);
+    CHECK(register_open(row, 34, 0, 1, 1) == REGISTER_E_SIZES && register_open(row, 34, 2, 8, 1) == REGISTER_E_SIZES);
+    CHECK(register_open(row, 35, 2, 1, 1) == REGISTER_E_LENGTH && register_open(row, 0, 2, 1, 1) == REGISTER_E_LENGTH);
     static const uint8_t fail[] = {0x00, 0x08};
-    for (size_t cells = 0; cells <= 31; cells++) {
+    for (size_t cells = 0; cells <= 35; cells++) {
         uint64_t answer = register_step(row, cells, fail, sizeof fail);
         CHECK(REGISTER_WORD(answer) == REGISTER_REFUSED && REGISTER_NUMBER(answer) == REGISTER_E_CELLS);
     }
     CHECK(memcmp(before, row, sizeof row) == 0);
     memset(out, 9, sizeof out);
     memcpy(old, out, sizeof out);
-    CHECK(REGISTER_NUMBER(register_catalogue(room, 30, 0, out, 65)) == REGISTER_E_LENGTH);
-    CHECK(REGISTER_NUMBER(register_catalogue(row, 30, 0, out, 64)) == REGISTER_E_CELLS);
-    CHECK(REGISTER_NUMBER(register_catalogue(room, 30, 2, out, 64)) == REGISTER_E_BEYOND);
+    CHECK(REGISTER_NUMBER(register_catalogue(room, 34, 0, out, 65)) == REGISTER_E_LENGTH);
+    CHECK(REGISTER_NUMBER(register_catalogue(row, 34, 0, out, 64)) == REGISTER_E_CELLS);
+    CHECK(REGISTER_NUMBER(register_catalogue(room, 34, 2, out, 64)) == REGISTER_E_BEYOND);
     CHECK(memcmp(out, old, sizeof out) == 0);
-    CHECK(register_catalogue(room, 30, 0, out, REGISTER_PIECES) == 0 && out[0] == 0 && out[64] == old[64]);
-}
-
-/* One server and one drive settle a command in a slot of a row. */
-static void settle(uint32_t *row, size_t cells, uint8_t slot, uint32_t command)
-{
-    static const uint32_t kinds[] = {REGISTER_OFFER,  REGISTER_RECALL, REGISTER_REJOIN, REGISTER_WRITE,
-                                     REGISTER_FINISH, REGISTER_WRITE,  REGISTER_FINISH};
-    uint64_t answer = 0;
-    for (size_t i = 0; i < sizeof kinds / sizeof kinds[0]; i++) {
-        uint8_t record[REGISTER_LONGEST_RECORD];
-        uint32_t number = kinds[i] == REGISTER_OFFER ? command : 1;
-        uint64_t used = register_write((uint8_t)kinds[i], 0, slot, 0, 0, number, record, sizeof record);
-        answer = register_step(row, cells, record, REGISTER_NUMBER(used));
-    }
-    CHECK(REGISTER_WORD(answer) == REGISTER_COMMITTED && REGISTER_NUMBER(answer) == command);
+    CHECK(register_catalogue(room, 34, 0, out, REGISTER_PIECES) == 0 && out[0] == 0 && out[64] == old[64]);
 }
 
 /* A strike; then an enter, a move and a strike of the same number. */
 static void struck(void)
 {
-    uint32_t row[69], out[REGISTER_PIECES];
+    uint32_t row[79], out[REGISTER_PIECES];
     for (uint32_t cell = 0; cell <= 512; cell++)
         CHECK(REGISTER_ENTERED(cell) == (cell >= 1 && cell <= 255));
     CHECK(REGISTER_STRUCK == 256 && !REGISTER_ENTERED(UINT32_MAX) && !REGISTER_ENTERED(-1));
-    CHECK(register_open(row, 69, 1, 1, 5) == 0);
-    settle(row, 69, 0, REGISTER_ENTER(5, 9));
-    CHECK(register_catalogue(row, 69, 0, out, REGISTER_PIECES) == 1 * 256 && out[5] == 9);
-    settle(row, 69, 1, REGISTER_STRIKE(5));
-    CHECK(register_catalogue(row, 69, 0, out, REGISTER_PIECES) == 2 * 256 && out[5] == REGISTER_STRUCK);
-    settle(row, 69, 2, REGISTER_ENTER(5, 9));
-    settle(row, 69, 3, REGISTER_MOVE(5, 12));
-    settle(row, 69, 4, REGISTER_STRIKE(5));
-    CHECK(register_catalogue(row, 69, 0, out, REGISTER_PIECES) == 5 * 256 + 3);
+    CHECK(register_open(row, 79, 1, 1, 5) == 0);
+    settle(row, 79, 0, REGISTER_ENTER(5, 9));
+    CHECK(register_catalogue(row, 79, 0, out, REGISTER_PIECES) == 1 * 256 && out[5] == 9);
+    settle(row, 79, 1, REGISTER_STRIKE(5));
+    CHECK(register_catalogue(row, 79, 0, out, REGISTER_PIECES) == 2 * 256 && out[5] == REGISTER_STRUCK);
+    settle(row, 79, 2, REGISTER_ENTER(5, 9));
+    settle(row, 79, 3, REGISTER_MOVE(5, 12));
+    settle(row, 79, 4, REGISTER_STRIKE(5));
+    CHECK(register_catalogue(row, 79, 0, out, REGISTER_PIECES) == 5 * 256 + 3);
     for (uint32_t piece = 0; piece < REGISTER_PIECES; piece++)
         CHECK(out[piece] == (piece == 5 ? REGISTER_STRUCK : 0));
-}
-
-/* A room of one server, one drive and three slots: 43 cells. */
-static uint32_t three[43];
-
-/* The answer of a call that is refused with this number. */
-static uint64_t refused_with(uint32_t refusal)
-{
-    return ((uint64_t)REGISTER_REFUSED << 32) + refusal;
-}
-
-/* Ask gives this answer, and every cell stays. */
-static void asks(uint64_t expected, uint32_t server)
-{
-    uint32_t before[43];
-    memcpy(before, three, sizeof three);
-    CHECK(register_ask(three, 43, server) == expected);
-    CHECK(memcmp(before, three, sizeof three) == 0);
-}
-
-/* Put is refused with this number, and every cell stays. */
-static void no_put(uint32_t refusal, uint32_t server, uint32_t slot, uint32_t command)
-{
-    uint32_t before[43];
-    memcpy(before, three, sizeof three);
-    CHECK(register_put(three, 43, server, slot, command) == refused_with(refusal));
-    CHECK(memcmp(before, three, sizeof three) == 0);
-}
-
-/* Put is done, and the server's offer in the slot is all that changes. */
-static void put(uint32_t slot, uint32_t command)
-{
-    uint32_t wanted[43];
-    memcpy(wanted, three, sizeof three);
-    wanted[register_server_at(1, 1, 3, 0, slot) + REGISTER_SERVER_OFFER] = command;
-    CHECK(register_put(three, 43, 0, slot, command) == 0);
-    CHECK(memcmp(wanted, three, sizeof three) == 0);
-}
-
-/* The slots that are free: the lowest is named and can be filled once. */
-static void free_slots(void)
-{
-    static const uint8_t fail[] = {0x00, 0x08};
-    CHECK(register_open(three, 43, 1, 1, 3) == 0);
-    asks(0, 0);
-    put(0, constants[0]);
-    no_put(REGISTER_E_NOT_FREE, 0, 0, constants[1]);
-    asks(1, 0);
-    put(2, constants[1]);
-    asks(1, 0);
-    /* Offer is done where Put is refused. Slot 0 is settled, and not free. */
-    settle(three, 43, 0, constants[2]);
-    no_put(REGISTER_E_NOT_FREE, 0, 0, constants[0]);
-    put(1, constants[2]);
-    asks(refused_with(REGISTER_E_NO_FREE_SLOT), 0);
-    /* After a failure every slot is free again, the settled one too. */
-    CHECK(register_step(three, 43, fail, sizeof fail) == 0);
-    asks(0, 0);
-    put(0, constants[0]);
-    /* Without an offer a slot is free in each phase but 3. */
-    for (uint32_t phase = 0; phase <= 3; phase++) {
-        CHECK(register_open(three, 43, 1, 1, 3) == 0);
-        three[register_server_at(1, 1, 3, 0, 0) + REGISTER_SERVER_PHASE] = phase;
-        asks(phase == 3 ? 1 : 0, 0);
-        if (phase == 3)
-            no_put(REGISTER_E_NOT_FREE, 0, 0, constants[0]);
-        else
-            put(0, constants[0]);
-    }
-}
-
-/* Ask and Put are refused in the order of their checks. */
-static void no_free_slot(void)
-{
-    CHECK(register_open(three, 43, 1, 1, 3) == 0);
-    for (uint32_t slot = 0; slot < 3; slot++)
-        put(slot, constants[0]);
-    asks(refused_with(REGISTER_E_NO_FREE_SLOT), 0);
-    no_put(REGISTER_E_NOT_FREE, 0, 1, constants[0]);
-    no_put(REGISTER_E_NOT_A_COMMAND, 0, 1, REGISTER_ENTER(63, 61));
-    no_put(REGISTER_E_BEYOND, 1, 1, 0);
-    no_put(REGISTER_E_BEYOND, 0, 3, 0);
-    asks(refused_with(REGISTER_E_BEYOND), 1);
-    for (size_t i = 0; i < BEYOND; i++) {
-        asks(refused_with(REGISTER_E_BEYOND), beyond[i]);
-        no_put(REGISTER_E_BEYOND, beyond[i], 0, 0);
-        no_put(REGISTER_E_BEYOND, 0, beyond[i], 0);
-    }
-    for (size_t cells = 0; cells < 43; cells++) {
-        CHECK(register_ask(three, cells, 1) == refused_with(REGISTER_E_CELLS));
-        CHECK(register_put(three, cells, 1, 3, 0) == refused_with(REGISTER_E_CELLS));
-    }
-    three[REGISTER_OFF_MARKS] = 2;
-    asks(refused_with(REGISTER_E_CELLS), UINT32_MAX);
-    no_put(REGISTER_E_CELLS, UINT32_MAX, UINT32_MAX, 0);
 }
 
 /* The fields that each kind has: 1 server, 2 slot, 4 drive, 8 other, 16 number. */
@@ -389,9 +257,6 @@ int main(void)
     two_drives();
     rows();
     struck();
-    free_slots();
-    no_free_slot();
     records();
-    printf("%d failed\n", failures);
-    return failures != 0;
+    return failed();
 }

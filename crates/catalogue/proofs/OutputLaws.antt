@@ -2,7 +2,7 @@
 -- in a room in range each is a command.
 use Prim.Native.Nat.{ℕ, zero, suc, _+_, _-_, _≤_, _<_}
 use mathlib.Core.Path.{_≡_, refl, _∙_, sym, ap, ap₂, subst}
-use mathlib.Core.Bool.{Bool, true, false, _&&_, cond}
+use mathlib.Core.Bool.{Bool, true, false, cond}
 use mathlib.Core.List.{List, [], _∷_}
 use native.Mathlib.Omega.{arith}
 use native.Mathlib.Nat.{add-zero, zero-add}
@@ -10,15 +10,16 @@ use native.Mathlib.Numerals.{add-one}
 use lib.ListN.{length, getD, take}
 use lib.Dec.{eqb, leb}
 use borrow.Author.Tests.{eq-eqb, ne-eqb, eqb-true, eqb-false, leb-true}
-use Rattle.lemmas.proofs.Tests.{by-test, and-left, and-right}
+use Rattle.lemmas.proofs.Tests.{by-test, and-left}
 use Rattle.command.specs.Command.{kindOf, pieceOf, hoardOf, hoardFits, isCommand}
 use Rattle.state.specs.declared.Server.{Server}
 use Rattle.state.specs.declared.Sizes.{Sizes}
 use Rattle.state.specs.Server.{outputOf}
 use Rattle.layout.specs.Cells.{serverOf}
 use Rattle.range.specs.declared.Masks.{Masks}
-use Rattle.range.specs.Range.{masksOf, valueFits, numbersFit, serverFits}
+use Rattle.range.specs.Range.{masksOf, valueFits, serverFits}
 use Rattle.range.proofs.Laws.{InRange}
+use Rattle.range.proofs.RecordLaws.{server-says}
 use Rattle.catalogue.specs.Fold.{pieces}
 use Rattle.catalogue.specs.Outputs.{outputAt, leading, outputsOf}
 
@@ -146,13 +147,7 @@ output-of limits true v e = e
 output-of limits false v e = refl
 
 server-output : (limits : List ℕ) (k : Masks) (v : Server) → serverFits (valueFits limits) k v ≡ true → valueFits limits (outputOf v) ≡ true
-unfolding serverFits
-server-output limits k v e =
-    let numbers = numbersFit k v in
-    let inp = valueFits limits (v .inp) in
-    let offer = valueFits limits (v .offer) in
-    let front = and-left (numbers && inp && offer) (valueFits limits (v .seeninp)) e in
-    output-of limits (eqb (v .phase) 3) (v .inp) (and-right numbers inp (and-left (numbers && inp) offer front))
+server-output limits k v e = output-of limits (eqb (v .phase) 3) (v .agreed) (server-says limits k v e .agreed)
 
 -- a room in range has no outputs but commands
 module _ (limits : List ℕ) (z : Sizes) (cells : List ℕ) (range : InRange limits z cells) (p : ℕ) (h : p < z .servers) where

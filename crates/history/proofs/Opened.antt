@@ -57,7 +57,7 @@ opened-length z f =
     omega (arith, base-room z f)
 
 blank-in : (limits : List ℕ) → BlockIn limits blank
-blank-in limits = record { mbal = omega arith; bal = omega arith; inp = zero-fits limits }
+blank-in limits = record { mbal = omega arith; bal = omega arith; inp = zero-fits limits; done = zero-fits limits }
 
 pub opens : (limits : List ℕ) (z : Sizes) → Fit z → Moment limits z (openedCells z) (λ t. noGhost) (λ t. blankSlot)
 unfolding serverOf blockOf blockAt

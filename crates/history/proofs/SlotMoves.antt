@@ -6,7 +6,7 @@ use mathlib.Core.Bool.{true, cond}
 use mathlib.Core.List.{_∷_, List·Memᴰ, List·Memᴰ·head}
 use Rattle.state.specs.declared.Answer.{Answer}
 use Rattle.state.specs.declared.Answer.the-variants as answer
-use Rattle.synod.proofs.Past.{Ghost, Tried, heard, noteCommit}
+use Rattle.synod.proofs.Past.{Ghost, Tried, heard, noteCommit, commitBallot}
 use Rattle.synod.specs.Slot.{Slot, Config, updated}
 use Rattle.synod.proofs.Agreement.{agree, valid}
 use Rattle.synod.proofs.Ghosts.{tried}
@@ -106,5 +106,6 @@ unfolding heard told
 listens c g σ τ p b answer.Done inv none outs offs = quietly g g σ τ refl refl outs offs
 listens c g σ τ p b (answer.Outbid n) inv none outs offs = quietly g g σ τ refl refl outs offs
 listens c g σ τ p b (answer.Chosen y) inv none outs offs = quietly g (heard g b (answer.Chosen y)) σ τ refl refl outs offs
-listens c g σ τ p b (answer.Committed y) inv none outs offs = commits c g σ τ p b y inv (none refl) outs offs
+listens c g σ τ p b (answer.Committed y) inv none outs offs =
+    commits c g σ τ p (commitBallot b y (g .commits)) y inv (none refl) outs offs
 listens c g σ τ p b (answer.Refused n) inv none outs offs = quietly g g σ τ refl refl outs offs

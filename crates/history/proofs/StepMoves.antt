@@ -3,13 +3,13 @@ use Prim.Native.Nat.{ℕ}
 use mathlib.Core.Path.{_≡_, refl, _∙_, sym, ap}
 use mathlib.Core.Bool.{true, true≢false, cond}
 use mathlib.Core.List.{_∷_}
+use borrow.Author.Tests.{eqb-true}
 use Rattle.state.specs.declared.Answer.{Answer}
-use Rattle.state.specs.declared.Answer.the-variants as answer
 use Rattle.state.specs.declared.Sizes.{Sizes}
 use Rattle.state.specs.declared.Step.{Step}
 use Rattle.state.specs.declared.Step.the-variants.{Offer, Recall, Rejoin, Bid, Write, Read, Finish, Fail, DriveOff, DriveOn}
-use Rattle.state.specs.Answers.{numberOf}
-use Rattle.state.specs.View.{Stores, Alone, View, AtSlot, AtServer, AtDrive, viewOf}
+use Rattle.state.specs.Answers.{codeOf}
+use Rattle.state.specs.View.{Stores, Alone, View, AtSlot, viewOf}
 use Rattle.synod.specs.declared.Ruling.{Ruling}
 use Rattle.synod.specs.declared.Ruling.the-variants.{Refused, Accepted}
 use Rattle.synod.specs.Arguments.{placesFit}
@@ -19,7 +19,7 @@ use Rattle.synod.specs.Rules.{offerRule, ruleOf}
 use Rattle.synod.specs.Slot.{Slot, Config, configOf}
 use Rattle.synod.proofs.Invariant.{Invariant}
 use Rattle.synod.proofs.Kept.{kept}
-use Rattle.synod.proofs.Outputs.{outputs, offers, told, outputsAt, outputsAfter, offersAt, offersAfter, outputs-told, offers-told, committed-by}
+use Rattle.synod.proofs.Outputs.{outputs, offers, told, outputsAt, outputsAfter, offersAt, offersAfter, outputs-told, offers-told, wordOf, viewServer, none-before}
 use Rattle.step_laws.specs.Concerns.{concernsAt, concerns}
 use Rattle.step_laws.proofs.Lowest.{answerBy}
 use Rattle.history.specs.Run.{Move, Offers, Chooses, Fails, Rests, committed, moveAt, moveOf, outputIn, given}
@@ -29,19 +29,6 @@ use Rattle.history.proofs.SlotMoves.{Moves, rests, listens}
 -- the move and the output of a step in slot t with an answer
 abbrev pub MovesBy : ℕ → Ghost → Slot → Step → Answer → Ghost → Slot → Type 0
 MovesBy t g σ st a h τ = Moves g σ (moveOf t st a) (outputIn (moveOf t st a) a) h τ
-
-committed-is : (a : Answer) → committed a ≡ true → a ≡ answer.Committed (numberOf a)
-committed-is answer.Done e = absurd (true≢false (sym e))
-committed-is (answer.Outbid b) e = absurd (true≢false (sym e))
-committed-is (answer.Chosen c) e = absurd (true≢false (sym e))
-committed-is (answer.Committed c) e = refl
-committed-is (answer.Refused n) e = absurd (true≢false (sym e))
-
--- the server that acts; 0 where there is none
-abbrev viewServer : View → ℕ
-viewServer (AtSlot p s k) = p
-viewServer (AtServer p) = p
-viewServer (AtDrive d on) = 0
 
 -- a view that shows only by a committed answer of its server
 record Listener (w : View) : Type 0 where
@@ -73,9 +60,7 @@ module _ (c : Config) (off : ℕ) (g : Ghost) (σ : Slot) where
       rw (l .notes g σ a)
       (listens c g σ (after σ st (Accepted v a)) p (σ p .own .mbal) a
       (rw (l .notes g σ a) at inv)
-      (λ k.
-      let by = committed-by c off σ (numberOf a) st v (e ∙ ap (Accepted v) (committed-is a k)) in
-      ap (λ (s : Step). outputs σ (viewServer (viewOf s))) (by .step) ∙ by .before)
+      (λ k. none-before c off σ st (ap wordOf e ∙ eqb-true (codeOf a) 3 k))
       (λ q. outs q ∙ ap (λ (f : ℕ → ℕ). f q) (l .outs (outputs σ) a))
       (λ q. offs q ∙ ap (λ (f : ℕ → ℕ). f q) (l .offs (offers σ))))
 

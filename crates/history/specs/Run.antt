@@ -43,7 +43,8 @@ pub data Move : Type 0 where
   Fails : ℕ → Move
   Rests : Move
 
--- The move that a step with this answer makes. A Choose is read off the answer, not off the kind: only Finish commits.
+-- The move that a step with this answer makes. A Choose is read off the answer, not off the kind: a Finish that
+-- commits and a Read that learns are answered so, and nothing else.
 abbrev pub deedMove : ℕ → Deed → Answer → Move
 deedMove p (Brings c) a = cond (accepted a) (Offers p c) Rests
 deedMove p (Stores d) a = cond (committed a) (Chooses p) Rests

@@ -80,6 +80,7 @@ server-read r at v each =
     let k = each 7 (omega arith) in
     let l = each 8 (omega arith) in
     let m = each 9 (omega arith) in
+    let n = each 10 (omega arith) in
     λ i.
     record {
       phase = f i;
@@ -92,6 +93,7 @@ server-read r at v each =
       seeninp = k i;
       written = l i;
       read = m i;
+      agreed = n i;
     }
 
 pub block-read
@@ -101,7 +103,8 @@ block-read r at b each =
     let f = ap (λ (j : ℕ). getD r j 0) (sym (add-zero at)) ∙ each 0 (omega arith) in
     let a = each 1 (omega arith) in
     let c = each 2 (omega arith) in
-    λ i. record { mbal = f i; bal = a i; inp = c i }
+    let d = each 3 (omega arith) in
+    λ i. record { mbal = f i; bal = a i; inp = c i; done = d i }
 
 -- what was stored at a place is read there
 pub put-server : (r : List ℕ) (at : ℕ) (v : Server) → at + serverLength ≤ length r → serverIn (put r at (serverCells v)) at ≡ v
@@ -132,6 +135,7 @@ server-same r t at s =
     let h = s 7 (omega arith) in
     let k = s 8 (omega arith) in
     let l = s 9 (omega arith) in
+    let m = s 10 (omega arith) in
     λ i.
     record {
       phase = f i;
@@ -144,6 +148,7 @@ server-same r t at s =
       seeninp = h i;
       written = k i;
       read = l i;
+      agreed = m i;
     }
 
 pub block-same : (r t : List ℕ) (at : ℕ) → Same r t at blockLength → blockIn r at ≡ blockIn t at
@@ -152,7 +157,8 @@ block-same r t at s =
     let f = first-cell r t at blockLength (omega arith) s in
     let a = s 1 (omega arith) in
     let b = s 2 (omega arith) in
-    λ i. record { mbal = f i; bal = a i; inp = b i }
+    let c = s 3 (omega arith) in
+    λ i. record { mbal = f i; bal = a i; inp = b i; done = c i }
 
 -- a store apart from a place leaves its cells
 pub apart-same : (r : List ℕ) (at : ℕ) (xs : List ℕ) (b n : ℕ) → Apart at (length xs) b n → Same (put r at xs) r b n

@@ -32,10 +32,10 @@ offOf cells = getD cells offAt 0
 abbrev pub limitsOf : List ℕ → List ℕ
 limitsOf cells = cabinetLimits
 
--- the ten cells of a server record
+-- the eleven cells of a server record
 abbrev pub serverCells : Server → List ℕ
 serverCells v =
-    v .phase ∷ v .mbal ∷ v .bal ∷ v .inp ∷ v .offer ∷ v .top ∷ v .seenbal ∷ v .seeninp ∷ v .written ∷ v .read ∷ []
+    v .phase ∷ v .mbal ∷ v .bal ∷ v .inp ∷ v .offer ∷ v .top ∷ v .seenbal ∷ v .seeninp ∷ v .written ∷ v .read ∷ v .agreed ∷ []
 
 abbrev pub serverIn : List ℕ → ℕ → Server
 serverIn cells at =
@@ -50,14 +50,21 @@ serverIn cells at =
       seeninp = getD cells (at + 7) 0;
       written = getD cells (at + 8) 0;
       read = getD cells (at + 9) 0;
+      agreed = getD cells (at + 10) 0;
     }
 
--- the three cells of a block
+-- the four cells of a block
 abbrev pub blockCells : Block → List ℕ
-blockCells b = b .mbal ∷ b .bal ∷ b .inp ∷ []
+blockCells b = b .mbal ∷ b .bal ∷ b .inp ∷ b .done ∷ []
 
 abbrev pub blockIn : List ℕ → ℕ → Block
-blockIn cells at = record { mbal = getD cells at 0; bal = getD cells (at + 1) 0; inp = getD cells (at + 2) 0 }
+blockIn cells at =
+    record {
+      mbal = getD cells at 0;
+      bal = getD cells (at + 1) 0;
+      inp = getD cells (at + 2) 0;
+      done = getD cells (at + 3) 0;
+    }
 
 -- server p's record in slot s
 unfoldable pub serverOf : Sizes → List ℕ → ℕ → ℕ → Server

@@ -13,11 +13,11 @@ base = 4
 
 -- cells of a server record
 abbrev pub serverLength : ℕ
-serverLength = 10
+serverLength = 11
 
 -- cells of a block
 abbrev pub blockLength : ℕ
-blockLength = 3
+blockLength = 4
 
 -- cells of the longest slot and of the longest room: 4 servers, 7 drives, 16 slots
 abbrev pub longestSlot : ℕ

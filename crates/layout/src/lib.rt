@@ -14,9 +14,9 @@ pub const OFF: usize = 3;
 pub const BASE: usize = 4;
 
 // The cells of a server record and of a block.
-pub const SERVER_CELLS: usize = 10;
+pub const SERVER_CELLS: usize = 11;
 
-pub const BLOCK_CELLS: usize = 3;
+pub const BLOCK_CELLS: usize = 4;
 
 // The cells of the largest room.
 pub const LONGEST_ROOM: usize = BASE + 16 * (SERVER_CELLS * 4 + BLOCK_CELLS * 28);
@@ -136,6 +136,7 @@ pub fn server_in(room: &[u32], at: usize) -> Server
         seeninp: room[at + 7],
         written: room[at + 8],
         read: room[at + 9],
+        agreed: room[at + 10],
     }
 }
 
@@ -148,6 +149,7 @@ pub fn block_in(room: &[u32], at: usize) -> Block
         mbal: room[at],
         bal: room[at + 1],
         inp: room[at + 2],
+        done: room[at + 3],
     }
 }
 
@@ -183,6 +185,7 @@ pub fn store_server(room: &mut [u32], z: Sizes, s: u8, p: u8, v: Server)
     room[at + 7] = v.seeninp;
     room[at + 8] = v.written;
     room[at + 9] = v.read;
+    room[at + 10] = v.agreed;
 }
 
 // Stores server p's block on drive d in slot s.
@@ -194,6 +197,7 @@ pub fn store_block(room: &mut [u32], z: Sizes, s: u8, d: u8, p: u8, b: Block)
     room[at] = b.mbal;
     room[at + 1] = b.bal;
     room[at + 2] = b.inp;
+    room[at + 3] = b.done;
 }
 
 // Makes every cell 0.

@@ -30,11 +30,13 @@ pub record ServerIn (limits : List ℕ) (k : Masks) (v : Server) : Type 0 where
   pub inp : valueFits limits (v .inp) ≡ true
   pub offer : valueFits limits (v .offer) ≡ true
   pub seeninp : valueFits limits (v .seeninp) ≡ true
+  pub agreed : valueFits limits (v .agreed) ≡ true
 
 pub record BlockIn (limits : List ℕ) (b : Block) : Type 0 where
   pub mbal : b .mbal ≤ limit
   pub bal : b .bal ≤ limit
   pub inp : valueFits limits (b .inp) ≡ true
+  pub done : valueFits limits (b .done) ≡ true
 
 pub server-says : (limits : List ℕ) (k : Masks) (v : Server) → serverFits (valueFits limits) k v ≡ true → ServerIn limits k v
 unfolding serverFits numbersFit
@@ -49,8 +51,10 @@ server-says limits k v e =
     let i = valueFits limits (v .inp) in
     let o = valueFits limits (v .offer) in
     let n = valueFits limits (v .seeninp) in
+    let m = valueFits limits (v .agreed) in
     let numbers = a && b && c && d && f && g && h in
-    let e9 = and-left (numbers && i && o) n e in
+    let e10 = and-left (numbers && i && o && n) m e in
+    let e9 = and-left (numbers && i && o) n e10 in
     let e8 = and-left (numbers && i) o e9 in
     let e7 = and-left numbers i e8 in
     let e6 = and-left (a && b && c && d && f && g) h e7 in
@@ -68,7 +72,8 @@ server-says limits k v e =
       read = and-right (a && b && c && d && f && g) h e7;
       inp = and-right numbers i e8;
       offer = and-right (numbers && i) o e9;
-      seeninp = and-right (numbers && i && o) n e;
+      seeninp = and-right (numbers && i && o) n e10;
+      agreed = and-right (numbers && i && o && n) m e;
     }
 
 pub says-server : (limits : List ℕ) (k : Masks) (v : Server) → ServerIn limits k v → serverFits (valueFits limits) k v ≡ true
@@ -79,13 +84,9 @@ says-server limits k v s =
     let c = le-leb (v .bal) limit (s .bal) in
     let d = le-leb (v .top) limit (s .top) in
     let f = le-leb (v .seenbal) limit (s .seenbal) in
-    and-intro _ _
-    (and-intro _ _
-    (and-intro _ _
-    (and-intro _ _
-    (and-intro _ _
-    (and-intro _ _ (and-intro _ _ (and-intro _ _ (and-intro _ _ a b) c) d) f) (s .written)) (s .read)) (s .inp)) (s .offer))
-    (s .seeninp)
+    let ballots = and-intro _ _ (and-intro _ _ (and-intro _ _ (and-intro _ _ a b) c) d) f in
+    let numbers = and-intro _ _ (and-intro _ _ ballots (s .written)) (s .read) in
+    and-intro _ _ (and-intro _ _ (and-intro _ _ (and-intro _ _ numbers (s .inp)) (s .offer)) (s .seeninp)) (s .agreed)
 
 pub block-says : (limits : List ℕ) (b : Block) → blockFits (valueFits limits) b ≡ true → BlockIn limits b
 unfolding blockFits
@@ -93,19 +94,22 @@ block-says limits b e =
     let m = ballotFits (b .mbal) in
     let c = ballotFits (b .bal) in
     let v = valueFits limits (b .inp) in
-    let front = and-left (m && c) v e in
+    let d = valueFits limits (b .done) in
+    let ballots = and-left (m && c) (v && d) e in
+    let values = and-right (m && c) (v && d) e in
     record {
-      mbal = leb-true (b .mbal) limit (and-left m c front);
-      bal = leb-true (b .bal) limit (and-right m c front);
-      inp = and-right (m && c) v e;
+      mbal = leb-true (b .mbal) limit (and-left m c ballots);
+      bal = leb-true (b .bal) limit (and-right m c ballots);
+      inp = and-left v d values;
+      done = and-right v d values;
     }
 
 pub says-block : (limits : List ℕ) (b : Block) → BlockIn limits b → blockFits (valueFits limits) b ≡ true
 unfolding blockFits
 says-block limits b s =
-    and-intro (ballotFits (b .mbal) && ballotFits (b .bal)) (valueFits limits (b .inp))
-    (and-intro (ballotFits (b .mbal)) (ballotFits (b .bal)) (le-leb (b .mbal) limit (s .mbal)) (le-leb (b .bal) limit (s .bal)))
-    (s .inp)
+    and-intro _ _
+    (and-intro _ _ (le-leb (b .mbal) limit (s .mbal)) (le-leb (b .bal) limit (s .bal)))
+    (and-intro _ _ (s .inp) (s .done))
 
 -- 0 and every command are values
 pub zero-fits : (limits : List ℕ) → valueFits limits 0 ≡ true

@@ -13,7 +13,6 @@ use Rattle.state.specs.declared.Sizes.{Sizes}
 use Rattle.layout.specs.Places.{base, blockLength, sizesFit, roomLength, nthBlockAt}
 use Rattle.layout.specs.Cells.{sizesOf, offOf, limitsOf, serverOf, blockIn}
 use Rattle.range.specs.declared.Masks.{Masks}
-use Rattle.range.specs.declared.Four.{Four}
 
 -- the marks that may stand: of drives, and of blocks read (bit 4d + q)
 unfoldable pub legalDrives : Sizes → ℕ
@@ -42,33 +41,35 @@ numbersFit k v =
 
 -- one server record; value says what a cell that holds a command may hold
 unfoldable pub serverFits : (ℕ → Bool) → Masks → Server → Bool
-serverFits value k v = numbersFit k v && value (v .inp) && value (v .offer) && value (v .seeninp)
+serverFits value k v = numbersFit k v && value (v .inp) && value (v .offer) && value (v .seeninp) && value (v .agreed)
 
 -- the ballots of a block
 abbrev pub ballotsFit : Block → Bool
 ballotsFit b = ballotFits (b .mbal) && ballotFits (b .bal)
 
+-- the values of a block
+abbrev pub valuesFit : (ℕ → Bool) → Block → Bool
+valuesFit value b = value (b .inp) && value (b .done)
+
 -- one block
 unfoldable pub blockFits : (ℕ → Bool) → Block → Bool
-blockFits value b = ballotsFit b && value (b .inp)
+blockFits value b = ballotsFit b && valuesFit value b
 
 -- n blocks that stand one after the other from a cell on
 unfoldable pub blocksFrom : (ℕ → Bool) → List ℕ → ℕ → ℕ → Bool
 blocksFrom value cells first n = allBelow n (λ j. blockFits value (blockIn cells (first + blockLength * j)))
 
--- the values of the four blocks from a cell on
-abbrev pub fourIn : List ℕ → ℕ → Four
-fourIn cells at =
-    record {
-      a = blockIn cells at .inp;
-      b = blockIn cells (at + blockLength) .inp;
-      c = blockIn cells (at + blockLength * 2) .inp;
-      d = blockIn cells (at + blockLength * 3) .inp;
-    }
+-- a test of each of the four blocks from a cell on, and of each of them beside one of four others
+abbrev pub ofFour : (Block → Bool) → List ℕ → ℕ → Bool
+ofFour test cells at = allBelow 4 (λ j. test (blockIn cells (at + blockLength * j)))
 
--- four values
-abbrev pub fourFit : (ℕ → Bool) → Four → Bool
-fourFit value v = value (v .a) && value (v .b) && value (v .c) && value (v .d)
+abbrev pub ofFourBeside : (Block → Block → Bool) → List ℕ → ℕ → ℕ → Bool
+ofFourBeside test cells at others =
+    allBelow 4 (λ j. test (blockIn cells (at + blockLength * j)) (blockIn cells (others + blockLength * j)))
+
+-- a block with no value but v
+unfoldable pub holdsOnly : ℕ → Block → Bool
+holdsOnly v b = (eqb (b .inp) 0 || eqb (b .inp) v) && (eqb (b .done) 0 || eqb (b .done) v)
 
 -- every server record of slot s
 unfoldable pub serversFit : (ℕ → Bool) → Sizes → List ℕ → ℕ → Bool

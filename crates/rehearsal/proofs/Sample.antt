@@ -10,7 +10,7 @@ use Rattle.ballot.specs.Ballot.{owned, leastAbove, nextOwn}
 use Rattle.quorum.specs.Marks.{stands, marked}
 use Rattle.quorum.specs.Sets.{allBelow, size, gathered, majority, within}
 use Rattle.synod.specs.Arguments.{placesFit, commandFits}
-use Rattle.synod.specs.Changes.{meeting, marking, topping, recalling, rejoining, bidding, writing, reading, proposing, committing}
+use Rattle.synod.specs.Changes.{meeting, marking, topping, recalling, rejoining, bidding, writing, reading, proposing, agreeing}
 use Rattle.checks.specs.Checks.{must}
 use Rattle.synod.specs.Rules.{ruleOf, bidRule, finishRule, offerRule, outbidRule, readRule, recallRule, rejoinRule, writeRule}
 use Rattle.layout.specs.Places.{slotLength, roomLength, slotAt, serverAt, nthBlockAt, blockAt, sizesFit}
@@ -41,7 +41,7 @@ pub sample
 unfolding ones onesIn
     limitOf hoardFits isCommand owned leastAbove nextOwn stands marked allBelow size gathered majority within
     placesFit commandFits
-    meeting marking topping recalling rejoining bidding writing reading proposing committing
+    meeting marking topping recalling rejoining bidding writing reading proposing agreeing
     must offerRule recallRule rejoinRule bidRule writeRule outbidRule readRule finishRule
     slotLength roomLength slotAt serverAt nthBlockAt blockAt sizesFit serverOf putServer blockOf putBlock
     legalDrives legalReads valueFits numbersFit serverFits blockFits serversFit blocksFit slotFits cellsFit inRange

@@ -4,7 +4,7 @@ ghost use mathlib.Core.Path.{_≡_};
 ghost use Prim.Native.Nat.{_≤_, max};
 ghost use Rattle.synod.specs.Changes.{meeting, bidding};
 ghost use Rattle.ballot.specs.Ballot.{nextOwn};
-ghost use Rattle.synod.specs.Rules.{ruling, balloting, commandOf, outbidRule, offerRule, recallRule, rejoinRule, bidRule, writeRule, readRule, finishRule};
+ghost use Rattle.synod.specs.Rules.{ruling, balloting, joined, agreeRule, commandOf, outbidRule, offerRule, recallRule, rejoinRule, bidRule, writeRule, readRule, finishRule};
 use ballot::Next;
 use ballot::is_own;
 use ballot::next_own;
@@ -79,11 +79,11 @@ pub fn bid(servers: u32, v: Server, p: u8, ballot: u32) -> Ruling
     Ruling::Accepted(restart(v, ballot), Answer::Done)
 }
 
-// 5 Write, phase 1 or 2. The block to be written is the own block.
+// 5 Write, phase 1, 2 or 3. The block to be written is the own block.
 pub fn write(off: u32, v: Server, d: u8) -> Ruling
     ensures { λ r. ⌜ r ≡ ruling (writeRule off v d) ⌝ }
 {
-    if !in_ballot(v) {
+    if !has_joined(v) {
         return Ruling::Refused(7);
     }
     if has_mark(off, d as u32) {
@@ -94,7 +94,8 @@ pub fn write(off: u32, v: Server, d: u8) -> Ruling
     Ruling::Accepted(w, Answer::Done)
 }
 
-// 6 Read, phase 1 or 2, d written in this phase: b is server q's block on drive d.
+// 6 Read, phase 1 or 2, d written in this phase: b is server q's block on drive d. A done is learned before the ballots
+// are looked at.
 pub fn read(servers: u32, off: u32, v: Server, b: Block, p: u8, d: u8, q: u8) -> Ruling
     ensures { λ r. ⌜ r ≡ ruling (readRule servers off v b p d q) ⌝ }
 {
@@ -107,8 +108,14 @@ pub fn read(servers: u32, off: u32, v: Server, b: Block, p: u8, d: u8, q: u8) ->
     if !has_mark(v.written, d as u32) {
         return Ruling::Refused(9);
     }
-    if v.mbal <= b.mbal {
-        return outbid(servers, v, p, b.mbal);
+    let own = v.mbal;
+    let found = b.mbal;
+    let told = b.done != 0;
+    if told {
+        return agree_on(v, b.done);
+    }
+    if own <= found {
+        return outbid(servers, v, p, found);
     }
     let mut w = v;
     w.read = with_mark(v.read, drives::read_bit(d as u32, q as u32));
@@ -134,8 +141,14 @@ pub fn finish(servers: u32, drives: u32, v: Server, p: u8) -> Ruling
         let w = v.with_own(2, v.mbal, v.mbal, command).cleared();
         return Ruling::Accepted(w, Answer::Chosen(command));
     }
-    let w = v.with_own(3, v.mbal, v.bal, v.inp).cleared();
-    Ruling::Accepted(w, Answer::Committed(v.inp))
+    agree_on(v, v.inp)
+}
+
+// Phase 3 with the command that the slot is settled with: by the own ballot, or by a done that was read.
+fn agree_on(v: Server, command: u32) -> Ruling
+    ensures { λ r. ⌜ r ≡ ruling (agreeRule v command) ⌝ }
+{
+    Ruling::Accepted(v.with_agreed(command).cleared(), Answer::Committed(command))
 }
 
 // A block with a ballot that is not below the own one was found.
@@ -171,6 +184,12 @@ fn in_ballot(v: Server) -> bool
     ensures { λ r. ⌜ r ≡ balloting v ⌝ }
 {
     (v.phase == 1) | (v.phase == 2)
+}
+
+fn has_joined(v: Server) -> bool
+    ensures { λ r. ⌜ r ≡ joined v ⌝ }
+{
+    (v.phase == 1) | (v.phase == 2) | (v.phase == 3)
 }
 
 // The command of phase 1; 0 is none.

@@ -1,6 +1,6 @@
 -- A run that passes its test is as it says.
 use Prim.Native.Nat.{ℕ, zero, suc}
-use mathlib.Core.Path.{_≡_, refl, _∙_, sym, ap, ap₂}
+use mathlib.Core.Path.{_≡_, refl, _∙_, sym, ap₂}
 use mathlib.Core.Bool.{Bool, true, _&&_}
 use mathlib.Core.List.{List, [], _∷_, _++_}
 use lib.Dec.{eqb}
@@ -8,11 +8,11 @@ use borrow.Author.Tests.{eqb-true}
 use Rattle.lemmas.proofs.Tests.{and-left, and-right}
 use Rattle.state.specs.declared.Answer.{Answer}
 use Rattle.state.specs.declared.Answer.the-variants.{Done, Outbid, Chosen, Committed, Refused}
-use Rattle.state.specs.declared.Block.{Block}
 use Rattle.state.specs.Answers.{codeOf, numberOf}
 use Rattle.room.specs.Step.{answered, stepped}
-use Rattle.state.specs.Block.{block}
-use Rattle.starred.specs.Runs.{Line, _↝_, Own, OnDrive, own, onDrive, Replays, lastCells, sameAnswer, sameBlock, replays}
+use Rattle.range.proofs.Together.{same-block}
+use Rattle.state.specs.Block.{sameBlock}
+use Rattle.starred.specs.Runs.{Line, _↝_, Own, OnDrive, own, onDrive, Replays, lastCells, sameAnswer, replays}
 
 -- the answer with this word and this number
 abbrev fromCode : ℕ → ℕ → Answer
@@ -40,16 +40,6 @@ same-answer a b e =
     let word : codeOf a ≡ codeOf b = eqb-true (codeOf a) (codeOf b) (t .0) in
     let number : numberOf a ≡ numberOf b = eqb-true (numberOf a) (numberOf b) (t .1) in
     sym (from-own-code a) ∙ ap₂ fromCode word number ∙ from-own-code b
-
-pub same-block : (a b : Block) → sameBlock a b ≡ true → a ≡ b
-unfolding sameBlock
-same-block a b e =
-    let t = both (eqb (a .mbal) (b .mbal) && eqb (a .bal) (b .bal)) (eqb (a .inp) (b .inp)) e in
-    let u = both (eqb (a .mbal) (b .mbal)) (eqb (a .bal) (b .bal)) (t .0) in
-    let mbal : a .mbal ≡ b .mbal = eqb-true (a .mbal) (b .mbal) (u .0) in
-    let bal : a .bal ≡ b .bal = eqb-true (a .bal) (b .bal) (u .1) in
-    let inp : a .inp ≡ b .inp = eqb-true (a .inp) (b .inp) (t .1) in
-    ap₂ (λ (m n : ℕ). block m n (a .inp)) mbal bal ∙ ap (block (b .mbal) (b .bal)) inp
 
 pub run-says : (cells : List ℕ) (run : List Line) → replays cells run ≡ true → Replays cells run
 unfolding replays Replays

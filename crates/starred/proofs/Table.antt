@@ -18,7 +18,8 @@ use Rattle.range.specs.Range.{legalDrives, legalReads, valueFits, numbersFit, s
 use Rattle.room.specs.Open.{openChecks, openedCells, opening, opened}
 use Rattle.room.specs.Judge.{effectOf, stepChecks, judged}
 use Rattle.room.specs.Step.{failedBelow, settled, answered, stepped}
-use Rattle.starred.specs.Runs.{newRoom, own, onDrive, sameAnswer, sameBlock, replays}
+use Rattle.state.specs.Block.{sameBlock}
+use Rattle.starred.specs.Runs.{newRoom, own, onDrive, sameAnswer, replays}
 use Rattle.starred.specs.Cases.{Case, Run, Says, holds, allHold, caseAt}
 use Rattle.starred.specs.Starred.{starred}
 use Rattle.starred.proofs.RunLaws.{both}

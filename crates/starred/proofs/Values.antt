@@ -22,7 +22,7 @@ use Rattle.starred.specs.Starred.{met, proposed, recalled, starred}
 use Rattle.starred.proofs.RunLaws.{later}
 use Rattle.starred.proofs.Table.{starred-says}
 
-pub largest-length : roomLength (sizes 4 7 16) ≡ 1988
+pub largest-length : roomLength (sizes 4 7 16) ≡ 2500
 unfolding starred
 largest-length = starred-says 1 .1
 

@@ -10,6 +10,7 @@ use Rattle.state.specs.declared.Block.{Block}
 use Rattle.state.specs.declared.Sizes.{Sizes}
 use Rattle.state.specs.declared.Step.{Step}
 use Rattle.state.specs.Answers.{codeOf, numberOf}
+use Rattle.state.specs.Block.{sameBlock}
 use Rattle.state.specs.Server.{ownBlock}
 use Rattle.layout.specs.Places.{roomLength}
 use Rattle.layout.specs.Cells.{sizesOf, serverOf, blockOf}
@@ -51,9 +52,6 @@ lastCells cells (OnDrive d p b ∷ run) = lastCells cells run
 -- one word and one number
 unfoldable pub sameAnswer : Answer → Answer → Bool
 sameAnswer a b = eqb (codeOf a) (codeOf b) && eqb (numberOf a) (numberOf b)
-
-unfoldable pub sameBlock : Block → Block → Bool
-sameBlock a b = eqb (a .mbal) (b .mbal) && eqb (a .bal) (b .bal) && eqb (a .inp) (b .inp)
 
 -- what a run says, as a test
 unfoldable pub replays : List ℕ → List Line → Bool

@@ -1,11 +1,10 @@
 -- The server record, the ways in which it changes, and what it shows (SPEC, "The room in memory", "The ten steps", "The
--- one-value machine"). The three with… are the only places that name every cell of a changed record.
+-- one-value machine"). The four with… are the only places that name every cell of a changed record.
 use Prim.Native.Nat.{ℕ}
 use mathlib.Core.Bool.{Bool, not, _&&_, cond}
 use lib.Dec.{eqb}
 use Rattle.state.specs.declared.Block.{Block}
 use Rattle.state.specs.declared.Server.{Server}
-use Rattle.state.specs.Block.{block}
 
 -- the record in this phase and with these own mbal, bal and inp
 abbrev pub withOwn : Server → ℕ → ℕ → ℕ → ℕ → Server
@@ -21,6 +20,7 @@ withOwn v phase mbal bal inp =
       seeninp = v .seeninp;
       written = v .written;
       read = v .read;
+      agreed = v .agreed;
     }
 
 -- the record with this offer
@@ -37,6 +37,7 @@ withOffer v offer =
       seeninp = v .seeninp;
       written = v .written;
       read = v .read;
+      agreed = v .agreed;
     }
 
 -- the record with these notes of its phase
@@ -53,6 +54,24 @@ withNotes v top seenbal seeninp written read =
       seeninp = seeninp;
       written = written;
       read = read;
+      agreed = v .agreed;
+    }
+
+-- the record in phase 3, where the slot is settled with this command
+abbrev pub withAgreed : Server → ℕ → Server
+withAgreed v command =
+    record {
+      phase = 3;
+      mbal = v .mbal;
+      bal = v .bal;
+      inp = v .inp;
+      offer = v .offer;
+      top = v .top;
+      seenbal = v .seenbal;
+      seeninp = v .seeninp;
+      written = v .written;
+      read = v .read;
+      agreed = command;
     }
 
 -- clear: no marks and no top, and the own bal and inp are the best seen
@@ -62,15 +81,15 @@ cleared v = withNotes v 0 (v .bal) (v .inp) 0 0
 -- a server that has failed keeps nothing: every cell is 0
 abbrev pub failed : Server
 failed =
-    record { phase = 0; mbal = 0; bal = 0; inp = 0; offer = 0; top = 0; seenbal = 0; seeninp = 0; written = 0; read = 0 }
-
--- the server's own mbal, bal and inp, as it writes them to a drive
-abbrev pub ownBlock : Server → Block
-ownBlock v = block (v .mbal) (v .bal) (v .inp)
+    record { phase = 0; mbal = 0; bal = 0; inp = 0; offer = 0; top = 0; seenbal = 0; seeninp = 0; written = 0; read = 0; agreed = 0 }
 
 -- the command that the slot was settled with, as far as the server knows: 0 is none
 abbrev pub outputOf : Server → ℕ
-outputOf v = cond (eqb (v .phase) 3) (v .inp) 0
+outputOf v = cond (eqb (v .phase) 3) (v .agreed) 0
+
+-- the block that the server writes to a drive: its own mbal, bal and inp, and its output as done
+abbrev pub ownBlock : Server → Block
+ownBlock v = record { mbal = v .mbal; bal = v .bal; inp = v .inp; done = outputOf v }
 
 -- the command that the server offers: 0 is none
 abbrev pub offerOf : Server → ℕ

@@ -1,7 +1,7 @@
 // What the algorithm is about, by value: a block, a server's record, a step, an answer.
 ghost use mathlib.Core.Path.{_≡_};
-ghost use Rattle.state.specs.Block.{ballotFits};
-ghost use Rattle.state.specs.Server.{withOwn, cleared, failed, ownBlock, outputOf, isFree};
+ghost use Rattle.state.specs.Block.{ballotFits, sameBlock};
+ghost use Rattle.state.specs.Server.{withOwn, withAgreed, cleared, failed, ownBlock, outputOf, isFree};
 ghost use Rattle.state.specs.Answers.{codeOf, numberOf};
 
 // How many servers, drives and slots a room has.
@@ -11,12 +11,13 @@ pub struct Sizes {
     pub slots: u32,
 }
 
-// What a server keeps on a drive: its current ballot, the last ballot in which its phase 2 began, and the command
-// tried in that one.
+// What a server keeps on a drive: its current ballot, the last ballot in which its phase 2 began, the command tried in
+// that one, and the command that the slot was settled with, where the server knew it when it wrote.
 pub struct Block {
     pub mbal: u32,
     pub bal: u32,
     pub inp: u32,
+    pub done: u32,
 }
 
 impl Block {
@@ -25,6 +26,7 @@ impl Block {
         mbal: 0,
         bal: 0,
         inp: 0,
+        done: 0,
     };
     // The largest ballot.
     pub const LIMIT: u32 = 1000000;
@@ -35,10 +37,20 @@ impl Block {
     {
         ballot <= Block::LIMIT
     }
+
+    // Whether the two blocks are equal, cell by cell.
+    pub fn same(self, other: Block) -> bool
+        ensures { λ r. ⌜ r ≡ sameBlock self other ⌝ }
+    {
+        (self.mbal == other.mbal)
+            & (self.bal == other.bal)
+            & (self.inp == other.inp)
+            & (self.done == other.done)
+    }
 }
 
 // A server's record in one slot (SPEC, "The room in memory"). Seenbal and seeninp are the best bal met in this phase and its
-// inp, top is the largest mbal recalled in phase 0.
+// inp, top is the largest mbal recalled in phase 0, agreed is the command that the slot was settled with.
 pub struct Server {
     pub phase: u32,
     pub mbal: u32,
@@ -50,6 +62,7 @@ pub struct Server {
     pub seeninp: u32,
     pub written: u32,
     pub read: u32,
+    pub agreed: u32,
 }
 
 impl Server {
@@ -76,6 +89,15 @@ impl Server {
         self
     }
 
+    // The record in phase 3, where the slot is settled with this command.
+    pub fn with_agreed(mut self, command: u32) -> Server
+        ensures { λ r. ⌜ r ≡ withAgreed self command ⌝ }
+    {
+        self.phase = 3;
+        self.agreed = command;
+        self
+    }
+
     // The record of a server that has failed: nothing is left of it.
     pub fn failed(self) -> Server
         ensures { λ r. ⌜ r ≡ failed ⌝ }
@@ -83,17 +105,20 @@ impl Server {
         let own = Block::BLANK;
         let mut v = self.with_own(0, own.mbal, own.bal, own.inp);
         v.offer = 0;
+        v.agreed = own.done;
         v.cleared()
     }
 
-    // The block that the server would write.
+    // The block that the server would write: done says what its output is.
     pub fn own_block(self) -> Block
         ensures { λ r. ⌜ r ≡ ownBlock self ⌝ }
     {
+        let done = self.output();
         Block {
             mbal: self.mbal,
             bal: self.bal,
             inp: self.inp,
+            done: done,
         }
     }
 
@@ -101,7 +126,7 @@ impl Server {
     pub fn output(self) -> u32
         ensures { λ r. ⌜ r ≡ outputOf self ⌝ }
     {
-        if self.phase == 3 { self.inp } else { 0 }
+        if self.phase == 3 { self.agreed } else { 0 }
     }
 
     // Whether the slot is free for this server: it offers nothing there and is not in phase 3.

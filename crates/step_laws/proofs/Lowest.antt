@@ -58,7 +58,7 @@ kind c off σ (Recall p s d) = record { sound = refl; listed = refl }
 kind c off σ (Rejoin p s b) = record { sound = refl; listed = refl }
 kind c off σ (Bid p s b) = record { sound = refl; listed = refl }
 kind c off σ (Write p s d) = record { sound = refl; listed = refl }
-kind c off σ (Read p s d q) = record { sound = (refl, refl); listed = refl }
+kind c off σ (Read p s d q) = record { sound = (refl, (refl, refl)); listed = refl }
 kind c off σ (Finish p s) = record { sound = (refl, refl); listed = refl }
 kind c off σ (Fail p) = record { sound = refl; listed = refl }
 kind c off σ (DriveOff d) = record { sound = refl; listed = refl }

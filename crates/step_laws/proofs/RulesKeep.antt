@@ -16,7 +16,7 @@ use Rattle.state.specs.declared.Sizes.{Sizes}
 use Rattle.state.specs.Server.{withOwn, withNotes, cleared, failed, ownBlock}
 use Rattle.synod.specs.declared.Ruling.{Ruling}
 use Rattle.synod.specs.declared.Ruling.the-variants.{Refused, Accepted}
-use Rattle.synod.specs.Changes.{readBit, meeting, marking, topping, recalling, rejoining, bidding, writing, reading, proposing, committing}
+use Rattle.synod.specs.Changes.{readBit, meeting, marking, topping, recalling, rejoining, bidding, writing, reading, proposing, agreeing}
 use Rattle.synod.specs.Rules.{ruling, offerRule, recallRule, rejoinRule, bidRule, writeRule, readRule, finishRule}
 use Rattle.synod.proofs.Rulings.{recall-cases, rejoin-cases, bid-cases, write-cases, read-cases, finish-cases}
 use Rattle.layout.specs.Places.{Fit}
@@ -50,10 +50,12 @@ module _ (limits : List ℕ) (z : Sizes) where
         inp = zero-fits limits;
         offer = zero-fits limits;
         seeninp = zero-fits limits;
+        agreed = zero-fits limits;
       }
 
   pub own-in : (v : Server) → ServerIn limits (masksOf z) v → BlockIn limits (ownBlock v)
-  own-in v s = record { mbal = s .mbal; bal = s .bal; inp = s .inp }
+  own-in v s =
+      record { mbal = s .mbal; bal = s .bal; inp = s .inp; done = pick-value limits (eqb (v .phase) 3) (v .agreed) 0 (s .agreed) (zero-fits limits) }
 
   module _ (v : Server) (s : ServerIn limits (masksOf z) v) where
     -- a record that begins a phase
@@ -72,6 +74,7 @@ module _ (limits : List ℕ) (z : Sizes) where
           inp = i;
           offer = s .offer;
           seeninp = i;
+          agreed = s .agreed;
         }
 
     -- a record with other notes of its phase
@@ -91,6 +94,7 @@ module _ (limits : List ℕ) (z : Sizes) where
           inp = s .inp;
           offer = s .offer;
           seeninp = c;
+          agreed = s .agreed;
         }
 
     meeting-in : (b : Block) → BlockIn limits b → ServerIn limits (masksOf z) (meeting v b)
@@ -109,6 +113,23 @@ module _ (limits : List ℕ) (z : Sizes) where
     bidding-in : (b : ℕ) → b ≤ limit → ServerIn limits (masksOf z) (bidding v b)
     unfolding bidding
     bidding-in b h = begun-in 1 _ _ _ (omega arith) h (s .bal) (s .inp)
+
+    agreeing-in : (c : ℕ) → valueFits limits c ≡ true → ServerIn limits (masksOf z) (agreeing v c)
+    unfolding agreeing
+    agreeing-in c h =
+        record {
+          phase = omega arith;
+          mbal = s .mbal;
+          bal = s .bal;
+          top = omega arith;
+          seenbal = s .bal;
+          written = within-zero (masksOf z .drives);
+          read = within-zero (masksOf z .reads);
+          inp = s .inp;
+          offer = s .offer;
+          seeninp = s .inp;
+          agreed = h;
+        }
 
     marking-in : Fit z → (d q : ℕ) → d < z .drives → q < z .servers → ServerIn limits (masksOf z) (marking v d q)
     unfolding marking
@@ -140,6 +161,7 @@ module _ (limits : List ℕ) (z : Sizes) where
           inp = s .inp;
           offer = command-fits limits c e;
           seeninp = s .seeninp;
+          agreed = s .agreed;
         }
 
     pub recall-keeps
@@ -173,12 +195,13 @@ module _ (limits : List ℕ) (z : Sizes) where
         read-cases (Keeps limits z) (λ n. tt) v servers off b p d q
         (λ e w m. meeting-in (marking v d q) (marking-in v s fit d q h l) b t)
         (λ next e o m. bidding-in v s next (owned-within servers p next o))
+        (λ e some. agreeing-in v s (b .done) (t .done))
 
     pub finish-keeps : (servers drives p : ℕ) → Keeps limits z (ruling (finishRule servers drives v p))
-    unfolding proposing committing
+    unfolding proposing
     finish-keeps servers drives p =
         finish-cases (Keeps limits z) (λ n. tt) v servers drives p
         (λ e m n.
         begun-in v s 2 _ _ _ (omega arith) (s .mbal) (s .mbal)
         (pick-value limits (eqb (v .seeninp) 0) (v .offer) (v .seeninp) (s .offer) (s .seeninp)))
-        (λ e m. begun-in v s 3 _ _ _ (omega arith) (s .mbal) (s .bal) (s .inp))
+        (λ e m. agreeing-in v s (v .inp) (s .inp))

@@ -3,3 +3,5 @@
 pub mod Concerns
 -- the refusals that a step can get
 pub mod Refusals
+-- which kinds commit
+pub mod Committing

@@ -2,15 +2,13 @@
 use Prim.Native.Nat.{ℕ, _<_, _≤_}
 use native.Mathlib.Decide.{decLe}
 use native.Mathlib.Omega.{arith}
-use borrow.Author.Tests.{eqb-true}
-use mathlib.Core.Bool.{Bool, true, false, cond}
 use mathlib.Core.List.{List·Memᴰ}
-use mathlib.Core.Path.{_≡_, refl, sym}
-use lib.Dec.{eqb}
+use mathlib.Core.Path.{_≡_, sym}
+use mathlib.Core.Logic.{inl, inr}
 use Rattle.state.specs.Server.{outputOf}
 use Rattle.synod.proofs.Past.{Ghost, Tried}
 use Rattle.synod.specs.Slot.{Slot, Config}
-use Rattle.synod.proofs.Ghosts.{Offered, Committed}
+use Rattle.synod.proofs.Ghosts.{Offered, Settled, Agreed, shown-agreed}
 use Rattle.synod.proofs.Invariant.{Invariant}
 
 module _ {c : Config} {g : Ghost} {σ : Slot} (inv : Invariant c g σ) where
@@ -31,20 +29,10 @@ module _ {c : Config} {g : Ghost} {σ : Slot} (inv : Invariant c g σ) where
       let f = inv .fair (t .ballot) (t .command) (inv .binding (t .ballot) (t .command) m .proposed) in
       (f .command, f .offered)
 
--- some commit has the command v
-pub record Settled (g : Ghost) (v : ℕ) : Type 0 where
-  pub ballot : ℕ
-  pub committed : Committed g ballot v
-
 pub output-committed : {c : Config} {g : Ghost} {σ : Slot} → Invariant c g σ → (p : ℕ) → p < c .servers
-    → (outputOf (σ p .own) ≡ 0 → ⊥) → Settled g (outputOf (σ p .own))
-output-committed {c} {g} {σ} inv p lt = by-phase (eqb (σ p .own .phase) 3) refl
+    → (outputOf (σ p .own) ≡ 0 → ⊥) → Settled (g .commits) (outputOf (σ p .own))
+output-committed {c} {g} {σ} inv p lt some = by-case (shown-agreed g (σ p .own) (inv .each p lt .own-agreed))
   where
-    by-phase : (b : Bool) → eqb (σ p .own .phase) 3 ≡ b → (cond b (σ p .own .inp) 0 ≡ 0 → ⊥)
-        → Settled g (cond b (σ p .own .inp) 0)
-    by-phase true e h =
-        record {
-          ballot = σ p .own .mbal;
-          committed = inv .each p lt .settled (eqb-true (σ p .own .phase) 3 e);
-        }
-    by-phase false e h = absurd (h refl)
+    by-case : Agreed g (outputOf (σ p .own)) → Settled (g .commits) (outputOf (σ p .own))
+    by-case (inl none) = absurd (some none)
+    by-case (inr s) = s

@@ -25,7 +25,7 @@ module _ {c : Config} {g : Ghost} {σ : Slot} (inv : Invariant c g σ) (p : ℕ)
         begun = λ h. absurd (omega arith);
         known = inl (refl, refl);
         offer = inl refl;
-        settled = λ h. absurd (omega arith);
+        agreed = inl refl;
       })
       (λ h. omega arith)
       (λ b v pr ow. record { reached = λ h. absurd (omega arith); passed = λ h. absurd (omega arith) })
@@ -43,7 +43,7 @@ module _ {c : Config} {g : Ghost} {σ : Slot} (inv : Invariant c g σ) (p : ℕ)
         begun = λ h. absurd (omega arith);
         known = s .own-known;
         offer = s .offer-offered;
-        settled = λ h. absurd (omega arith);
+        agreed = s .own-agreed;
       })
       (λ h. omega arith)
       (advance-ahead inv p lp _ advance)

@@ -9,7 +9,7 @@ use Rattle.synod.specs.Changes.{proposing}
 use Rattle.synod.proofs.Past.{Ghost, Tried}
 use Rattle.synod.specs.Slot.{Slot, Config}
 use Rattle.synod.proofs.Ghosts.{Proposed, tried}
-use Rattle.synod.proofs.Grows.{Grows, with-proposal, sound-more, fair-more, known-more, offer-more}
+use Rattle.synod.proofs.Grows.{Grows, with-proposal, sound-more, fair-more}
 use Rattle.synod.proofs.Marks.{none-stands}
 use Rattle.synod.proofs.Update.{everywhere}
 use Rattle.synod.proofs.Quorums.{weaker}
@@ -26,16 +26,15 @@ module _ {c : Config} {g : Ghost} {σ : Slot} {p : ℕ} (k : Choice c g σ p) wh
   chosen : Sound c (past k) p (node k)
   unfolding proposing
   chosen =
-      let s = k .inv .each p (k .within) in
-      cleared-sound (σ p) (proposing (σ p .own) (command k)) (chosen-cleared k)
+      let s = sound-more more (k .inv .each p (k .within)) in
+      cleared-sound (σ p) (proposing (σ p .own) (command k)) s (chosen-cleared k)
       (record {
         mine = λ e. mine k;
         begun = λ e. refl;
         known = inr (List·Memᴰ·head refl);
-        offer = offer-more more (s .offer-offered);
-        settled = λ e. absurd (omega arith);
+        offer = s .offer-offered;
+        agreed = s .own-agreed;
       })
-      (λ d. known-more more (s .disk-known d))
 
   pub each-kept : (q : ℕ) → q < c .servers → Sound c (past k) q (next k q)
   each-kept =

@@ -7,7 +7,7 @@ use Rattle.state.specs.declared.Server.{Server}
 use Rattle.synod.proofs.Machine.{withRecord}
 use Rattle.synod.proofs.Past.{Ghost}
 use Rattle.synod.specs.Slot.{Node, Slot, Config}
-use Rattle.synod.proofs.Ghosts.{Offered, Proposed, Committed, Known}
+use Rattle.synod.proofs.Ghosts.{Offered, Proposed, Committed, Known, Agreed}
 use Rattle.synod.proofs.Marks.{none-stands}
 use Rattle.synod.proofs.One.{Owns, Sound}
 use Rattle.synod.proofs.Proposals.{Ahead}
@@ -23,14 +23,14 @@ pub record Cleared (v : Server) : Type 0 where
 -- what else a cleared record must bring
 pub record Fresh (c : Config) (g : Ghost) (p : ℕ) (v : Server) : Type 0 where
   pub mine : 1 ≤ v .phase → Owns c p (v .mbal)
-  pub begun : 2 ≤ v .phase → v .bal ≡ v .mbal
+  pub begun : v .phase ≡ 2 → v .bal ≡ v .mbal
   pub known : Known g (v .bal) (v .inp)
   pub offer : (v .offer ≡ 0) ⊎ Offered g (v .offer)
-  pub settled : v .phase ≡ 3 → Committed g (v .mbal) (v .inp)
+  pub agreed : Agreed g (v .agreed)
 
-pub cleared-sound : {c : Config} {g : Ghost} {p : ℕ} (n : Node) (v : Server) → Cleared v → Fresh c g p v
-    → ((d : ℕ) → Known g (n .disk d .bal) (n .disk d .inp)) → Sound c g p (withRecord n v)
-cleared-sound {g = g} n v e f disk =
+pub cleared-sound : {c : Config} {g : Ghost} {p : ℕ} (n : Node) (v : Server) → Sound c g p n → Cleared v → Fresh c g p v
+    → Sound c g p (withRecord n v)
+cleared-sound {g = g} n v s e f =
     record {
       recalled = λ h d m. none-stands (v .read) _ (e .read) m;
       mine = f .mine;
@@ -38,11 +38,12 @@ cleared-sound {g = g} n v e f disk =
       seen = le-of-eq (sym (e .seenbal));
       own-known = f .known;
       seen-known = subst₂ (λ (b w : ℕ). Known g b w) (sym (e .seenbal)) (sym (e .seeninp)) (f .known);
-      disk-known = disk;
+      disk-known = s .disk-known;
       written-own = λ d m. none-stands (v .written) _ (e .written) m;
       read-written = λ h d q lt m. none-stands (v .read) _ (e .read) m;
       offer-offered = f .offer;
-      settled = f .settled;
+      own-agreed = f .agreed;
+      disk-agreed = s .disk-agreed;
     }
 
 pub cleared-change : {c : Config} {g : Ghost} {σ : Slot} (p : ℕ) (v : Server) → Sound c g p (σ p) → Cleared v → Fresh c g p v
@@ -52,7 +53,7 @@ pub cleared-change : {c : Config} {g : Ghost} {σ : Slot} (p : ℕ) (v : Server)
     → Change c g σ p (withRecord (σ p) v)
 cleared-change {σ = σ} p v s e f not-two ahead held =
     record {
-      sound = cleared-sound (σ p) v e f (s .disk-known);
+      sound = cleared-sound (σ p) v s e f;
       blocks = λ d. inl refl;
       ahead = ahead;
       held = held;

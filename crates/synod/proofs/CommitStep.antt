@@ -1,55 +1,22 @@
 -- Finish in phase 2: the complete drives meet the quorum of any blocker where the server has read, so there is none, and
--- the commit binds. It is added first; the server's own change is then a step like the others.
+-- the commit binds.
 use Prim.Native.Nat.{ℕ, _<_}
 use native.Mathlib.Omega.{arith}
-use native.Mathlib.Nat.{le-refl}
-use mathlib.Core.List.{List·Memᴰ·head, List·Memᴰ·cases-cons}
-use mathlib.Core.Path.{_≡_, refl, sym, ap, subst}
-use mathlib.Core.Logic.{_⊎_, inl, inr}
-use Rattle.synod.specs.Changes.{committing}
+use mathlib.Core.Path.{_≡_, ap, subst}
+use mathlib.Core.Logic.{inl, inr}
+use Rattle.synod.specs.Changes.{agreeing}
 use Rattle.synod.proofs.Machine.{withRecord}
-use Rattle.synod.proofs.Past.{Ghost, Tried, noteCommit}
+use Rattle.synod.proofs.Past.{Ghost, noteCommit, commitBallot}
 use Rattle.synod.specs.Slot.{Slot, Config, updated}
 use Rattle.ballot.proofs.Laws.{owned-positive}
-use Rattle.synod.proofs.Ghosts.{Proposed, Committed, Known, tried}
-use Rattle.synod.proofs.Grows.{Grows, with-commit, sound-more, fair-more, blocker-more}
+use Rattle.synod.proofs.Ghosts.{Proposed, Known}
 use Rattle.synod.proofs.Quorums.{Quorum, weaker, meet}
 use Rattle.synod.proofs.Completes.{Complete}
-use Rattle.synod.proofs.One.{Owns, Sound}
+use Rattle.synod.proofs.One.{Owns}
 use Rattle.synod.proofs.Rivals.{Unrivalled, Rival}
 use Rattle.synod.proofs.Commits.{Held, Binding}
 use Rattle.synod.proofs.Invariant.{Invariant}
-use Rattle.synod.proofs.Frame.{Change, frame}
-use Rattle.synod.proofs.Advances.{Advance, advance-ahead, advance-held}
-use Rattle.synod.proofs.Clears.{cleared-change}
-
--- a commit that binds joins the others
-committed-more : {c : Config} {g : Ghost} {σ : Slot} (b v : ℕ) → Invariant c g σ → Binding c g σ b v
-    → Invariant c (noteCommit b v g) σ
-committed-more {c} {g} {σ} b v inv new =
-    record {
-      each = λ p lt. sound-more more (inv .each p lt);
-      fair = λ e w pr. fair-more more (inv .fair e w pr);
-      spread = inv .spread;
-      crossed = inv .crossed;
-      rival = λ p lt ph. rival p (inv .rival p lt ph);
-      binding = λ e w cm. binding e w (List·Memᴰ·cases-cons cm);
-    }
-  where
-    more : Grows g (noteCommit b v g)
-    more = with-commit g b v
-
-    rival : (p : ℕ) → Rival c g σ p (σ p) → Rival c (noteCommit b v g) σ p (σ p)
-    rival p (inl u) = inl u
-    rival p (inr x) = inr (blocker-more more x)
-
-    same : (e w : ℕ) → Binding c g σ e w → Binding c (noteCommit b v g) σ e w
-    same e w x = record { owner = x .owner; proposed = x .proposed; only = x .only; own = x .own; blocks = x .blocks }
-
-    binding : (e w : ℕ) → (tried e w ≡ tried b v) ⊎ Committed g e w → Binding c (noteCommit b v g) σ e w
-    binding e w (inl eq) =
-        subst (λ (t : Tried). Binding c (noteCommit b v g) σ (t .ballot) (t .command)) (sym eq) (same b v new)
-    binding e w (inr cm) = same e w (inv .binding e w cm)
+use Rattle.synod.proofs.AgreeStep.{agree-kept}
 
 module _ {c : Config} {g : Ghost} {σ : Slot} (inv : Invariant c g σ) (p : ℕ) (lp : p < c .servers) (two : σ p .own .phase ≡ 2) (full : Quorum (c .drives) (Complete c (σ p .own) p)) where
   unrivalled : Rival c g σ p (σ p) → Unrivalled g (σ p)
@@ -62,7 +29,7 @@ module _ {c : Config} {g : Ghost} {σ : Slot} (inv : Invariant c g σ) (p : ℕ)
   mine = inv .each p lp .mine (omega arith)
 
   same : σ p .own .bal ≡ σ p .own .mbal
-  same = inv .each p lp .begun (omega arith)
+  same = inv .each p lp .begun two
 
   proposed : Proposed g (σ p .own .mbal) (σ p .own .inp)
   proposed = by-case (inv .each p lp .own-known)
@@ -99,38 +66,7 @@ module _ {c : Config} {g : Ghost} {σ : Slot} (inv : Invariant c g σ) (p : ℕ)
       }
 
   -- 7 Finish, phase 2
-  pub commit-kept : Invariant c (noteCommit (σ p .own .mbal) (σ p .own .inp) g) (updated σ p (withRecord (σ p) (committing (σ p .own))))
-  unfolding committing
-  commit-kept = frame now p lp _ change
-    where
-      h : Ghost
-      h = noteCommit (σ p .own .mbal) (σ p .own .inp) g
-
-      now : Invariant c h σ
-      now = committed-more (σ p .own .mbal) (σ p .own .inp) inv binds
-
-      s : Sound c h p (σ p)
-      s = now .each p lp
-
-      advance : Advance (σ p) (withRecord (σ p) (committing (σ p .own)))
-      advance =
-          record {
-            phase = λ e. omega arith;
-            mbal = λ e. le-refl _;
-            bal = λ e. le-refl _;
-            again = λ e. absurd (omega arith);
-          }
-
-      change : Change c h σ p (withRecord (σ p) (committing (σ p .own)))
-      change =
-          cleared-change p (committing (σ p .own)) s (record { written = refl; read = refl; seenbal = refl; seeninp = refl })
-          (record {
-            mine = λ e. mine;
-            begun = λ e. same;
-            known = s .own-known;
-            offer = s .offer-offered;
-            settled = λ e. List·Memᴰ·head refl;
-          })
-          (λ e. omega arith)
-          (advance-ahead now p lp _ advance)
-          (advance-held now p lp _ advance)
+  pub commit-kept
+      : Invariant c (noteCommit (commitBallot (σ p .own .mbal) (σ p .own .inp) (g .commits)) (σ p .own .inp) g)
+      (updated σ p (withRecord (σ p) (agreeing (σ p .own) (σ p .own .inp))))
+  commit-kept = agree-kept inv p lp (omega arith) (σ p .own .inp) (inl binds)

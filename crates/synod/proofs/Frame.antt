@@ -127,9 +127,8 @@ module _ {c : Config} {g : Ghost} {σ : Slot} (inv : Invariant c g σ) (p : ℕ)
           omega arith
       by-mark (inr met) =
           let phase : 1 ≤ σ q .own .phase = let f = l .second in omega arith in
-          let two : 2 ≤ σ q .own .phase = let f = l .second in omega arith in
           let at : σ q .disk d .bal ≡ σ q .own .bal = ap (λ x. x .bal) (own-there (inv .each q lq) phase d p lp theirs) in
-          let same : σ q .own .bal ≡ σ q .own .mbal = inv .each q lq .begun two in
+          let same : σ q .own .bal ≡ σ q .own .mbal = inv .each q lq .begun (l .second) in
           omega arith
 
   crossed-kept : (q r : ℕ) → q < c .servers → r < c .servers → Crossed c q (updated σ p m q) r (updated σ p m r)

@@ -9,9 +9,9 @@ use Rattle.state.specs.declared.Answer.{Answer}
 use Rattle.state.specs.declared.Answer.the-variants as answer
 use Rattle.synod.specs.declared.Ruling.{Ruling}
 use Rattle.synod.specs.declared.Ruling.the-variants.{Refused, Accepted}
-use Rattle.synod.proofs.Past.{Ghost, noteOffer, noteProposal, noteCommit, heard, noteDeed, ghostAfter, noted}
+use Rattle.synod.proofs.Past.{Ghost, noteOffer, noteProposal, noteCommit, commitBallot, heard, noteDeed, ghostAfter, noted}
 use Rattle.synod.specs.Slot.{Node, Slot, Config}
-use Rattle.synod.proofs.Ghosts.{Offered, Proposed, Committed, Known}
+use Rattle.synod.proofs.Ghosts.{Offered, Proposed, Committed, Known, Agreed}
 use Rattle.synod.proofs.One.{Sound}
 use Rattle.synod.proofs.Proposals.{Fair}
 use Rattle.synod.proofs.Rivals.{Blocker}
@@ -34,16 +34,20 @@ pub with-commit : (g : Ghost) (e w : ℕ) → Grows g (noteCommit e w g)
 with-commit g e w = record { offered = λ v m. m; proposed = λ b v m. m; committed = λ b v m. List·Memᴰ·tail m }
 
 module _ {g h : Ghost} (more : Grows g h) where
-  pub known-more : {b v : ℕ} → Known g b v → Known h b v
+  known-more : {b v : ℕ} → Known g b v → Known h b v
   known-more (inl e) = inl e
   known-more {b} {v} (inr m) = inr (more .proposed b v m)
 
-  pub offer-more : {v : ℕ} → (v ≡ 0) ⊎ Offered g v → (v ≡ 0) ⊎ Offered h v
+  offer-more : {v : ℕ} → (v ≡ 0) ⊎ Offered g v → (v ≡ 0) ⊎ Offered h v
   offer-more (inl e) = inl e
   offer-more {v} (inr m) = inr (more .offered v m)
 
+  agreed-more : {v : ℕ} → Agreed g v → Agreed h v
+  agreed-more (inl e) = inl e
+  agreed-more {v} (inr s) = inr (record { ballot = s .ballot; committed = more .committed (s .ballot) v (s .committed) })
+
   pub sound-more : {c : Config} {p : ℕ} {n : Node} → Sound c g p n → Sound c h p n
-  sound-more {n = n} s =
+  sound-more s =
       record {
         recalled = s .recalled;
         mine = s .mine;
@@ -55,7 +59,8 @@ module _ {g h : Ghost} (more : Grows g h) where
         written-own = s .written-own;
         read-written = s .read-written;
         offer-offered = offer-more (s .offer-offered);
-        settled = λ e. more .committed (n .own .mbal) (n .own .inp) (s .settled e);
+        own-agreed = agreed-more (s .own-agreed);
+        disk-agreed = λ d. agreed-more (s .disk-agreed d);
       }
 
   pub fair-more : {c : Config} {b v : ℕ} → Fair c g b v → Fair c h b v
@@ -78,7 +83,7 @@ unfolding heard
 heard-grows g mbal answer.Done = same g
 heard-grows g mbal (answer.Outbid b) = same g
 heard-grows g mbal (answer.Chosen c) = with-proposal g mbal c
-heard-grows g mbal (answer.Committed c) = with-commit g mbal c
+heard-grows g mbal (answer.Committed c) = with-commit g (commitBallot mbal c (g .commits)) c
 heard-grows g mbal (answer.Refused n) = same g
 
 deed-grows : {g h : Ghost} (k : Deed) → Grows g h → Grows g (noteDeed k h)

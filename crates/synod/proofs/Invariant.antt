@@ -41,7 +41,8 @@ blank-sound c p =
       written-own = λ d m. none-stands 0 _ refl m;
       read-written = λ h d q lt m. none-stands 0 _ refl m;
       offer-offered = inl refl;
-      settled = λ h. absurd (omega arith);
+      own-agreed = inl refl;
+      disk-agreed = λ d. inl refl;
     }
 
 pub begins : (c : Config) → Invariant c noGhost blankSlot

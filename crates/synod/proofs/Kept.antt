@@ -26,6 +26,7 @@ use Rattle.synod.proofs.RejoinStep.{recall-change, rejoin-change}
 use Rattle.synod.proofs.BidStep.{bid-change, fail-change}
 use Rattle.synod.proofs.WriteStep.{write-change}
 use Rattle.synod.proofs.ReadStep.{read-change}
+use Rattle.synod.proofs.AgreeStep.{learn-kept}
 use Rattle.synod.proofs.Completes.{completes}
 use Rattle.synod.proofs.ChooseStep.{choose-kept}
 use Rattle.synod.proofs.CommitStep.{commit-kept}
@@ -66,7 +67,7 @@ module _ {c : Config} {g : Ghost} {σ : Slot} (inv : Invariant c g σ) where
     unfolding noted after heard
     write-kept off d ld =
         write-cases (Keeps c g σ (Write p s d)) (refused (Write p s d)) (σ p .own) off d
-        (λ two. frame inv p lp _ (write-change inv p lp d ld (two .least) (two .most)))
+        (λ joined. frame inv p lp _ (write-change inv p lp d ld joined))
 
     read-kept : Fits c → (off d q : ℕ) → q < c .servers
         → Keeps c g σ (Read p s d q) (ruling (readRule (c .servers) off (σ p .own) (σ q .disk d) p d q))
@@ -75,6 +76,7 @@ module _ {c : Config} {g : Ghost} {σ : Slot} (inv : Invariant c g σ) where
         read-cases (Keeps c g σ (Read p s d q)) (refused (Read p s d q)) (σ p .own) (c .servers) off (σ q .disk d) p d q
         (λ two here low. frame inv p lp _ (read-change fits inv p lp d q lq (two .least) (two .most) here low))
         (λ b two mine up. frame inv p lp _ (bid-change inv p lp b mine (two .least) up))
+        (λ two some. learn-kept inv p lp (two .least) q d lq some)
 
     finish-kept : Keeps c g σ (Finish p s) (ruling (finishRule (c .servers) (c .drives) (σ p .own) p))
     unfolding noted after heard

@@ -31,7 +31,8 @@ pub mod RejoinStep
 pub mod BidStep
 pub mod WriteStep
 pub mod ReadStep
--- Finish
+-- phase 3, by a commit or by learning one; Finish
+pub mod AgreeStep
 pub mod Completes
 pub mod Choosing
 pub mod ChooseProposals

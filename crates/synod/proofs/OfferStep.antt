@@ -55,7 +55,8 @@ offer-change {c} {g} {σ} inv p lp w mem =
             written-own = s .written-own;
             read-written = s .read-written;
             offer-offered = inr mem;
-            settled = s .settled;
+            own-agreed = s .own-agreed;
+            disk-agreed = s .disk-agreed;
           };
       blocks = λ d. inl refl;
       ahead = advance-ahead inv p lp _ steady;

@@ -7,7 +7,7 @@ use Rattle.ballot.specs.Ballot.{owned}
 use Rattle.state.specs.Server.{ownBlock}
 use Rattle.synod.proofs.Past.{Ghost}
 use Rattle.synod.specs.Slot.{Node, Config}
-use Rattle.synod.proofs.Ghosts.{Offered, Committed, Known}
+use Rattle.synod.proofs.Ghosts.{Offered, Known, Agreed}
 use Rattle.synod.proofs.Marks.{wrote, saw}
 
 -- ballot b belongs to server p
@@ -24,8 +24,8 @@ pub record Sound (c : Config) (g : Ghost) (p : ℕ) (n : Node) : Type 0 where
   pub recalled : n .own .phase ≡ 0 → (d : ℕ) → saw (n .own) d p ≡ true → Recalled n d
   -- a ballot is the server's own, from phase 1 on
   pub mine : 1 ≤ n .own .phase → Owns c p (n .own .mbal)
-  -- from phase 2 on, the command stands in the current ballot
-  pub begun : 2 ≤ n .own .phase → n .own .bal ≡ n .own .mbal
+  -- in phase 2 the command stands in the current ballot
+  pub begun : n .own .phase ≡ 2 → n .own .bal ≡ n .own .mbal
   -- the own block is among those seen
   pub seen : n .own .bal ≤ n .own .seenbal
   -- each pair of a ballot and a command is nothing, or a proposal
@@ -37,5 +37,6 @@ pub record Sound (c : Config) (g : Ghost) (p : ℕ) (n : Node) : Type 0 where
   pub read-written : 1 ≤ n .own .phase → (d q : ℕ) → q < c .servers → saw (n .own) d q ≡ true → wrote (n .own) d ≡ true
   -- an offer was offered
   pub offer-offered : (n .own .offer ≡ 0) ⊎ Offered g (n .own .offer)
-  -- phase 3 comes by a commit
-  pub settled : n .own .phase ≡ 3 → Committed g (n .own .mbal) (n .own .inp)
+  -- what is agreed on, in the record or on a drive, is nothing, or a commit's command
+  pub own-agreed : Agreed g (n .own .agreed)
+  pub disk-agreed : (d : ℕ) → Agreed g (n .disk d .done)

@@ -4,24 +4,24 @@ use mathlib.Core.Bool.{cond}
 use Prim.Native.Nat.{ℕ, _≤_}
 use native.Mathlib.Omega.{arith}
 use borrow.Author.Tests.{ne-eqb}
-use mathlib.Core.Path.{_≡_, refl, sym, _∙_, ap}
+use mathlib.Core.Path.{_≡_, refl, sym, ap}
 use Rattle.state.specs.declared.Server.{Server}
 use Rattle.state.specs.declared.Step.{Step}
 use Rattle.state.specs.declared.Step.the-variants.{Offer, Recall, Rejoin, Bid, Write, Read, Finish, Fail, DriveOff, DriveOn}
 use Rattle.state.specs.declared.Answer.{Answer}
 use Rattle.state.specs.declared.Answer.the-variants as answer
-use Rattle.state.specs.Answers.{codeOf, numberOf}
+use Rattle.state.specs.Answers.{codeOf}
 use Rattle.state.specs.Server.{outputOf, offerOf}
 use Rattle.state.specs.View.{Brings, Stores, Alone, View, AtSlot, AtServer, AtDrive, viewOf}
 use Rattle.synod.specs.declared.Ruling.{Ruling}
 use Rattle.synod.specs.declared.Ruling.the-variants.{Refused, Accepted}
-use Rattle.synod.specs.Changes.{marking, meeting, topping, recalling, rejoining, bidding, writing, reading, proposing, committing}
+use Rattle.synod.specs.Changes.{marking, meeting, topping, recalling, rejoining, bidding, writing, reading, agreeing, proposing}
 use Rattle.synod.proofs.Machine.{ruled, after}
 use Rattle.synod.specs.Rules.{offerRule, ruleOf, recallRule, rejoinRule, bidRule, writeRule, outbidRule, readRule, finishRule}
 use Rattle.synod.specs.Slot.{Node, Slot, Config, updated}
 use Rattle.checks.proofs.CheckLaws.{AllGive, all-give}
 use Rattle.synod.proofs.Rulings.{recall-cases, rejoin-cases, bid-cases, write-cases, read-cases, finish-cases}
-use Rattle.synod.proofs.Update.{everywhere, updated-at, updated-map}
+use Rattle.synod.proofs.Update.{everywhere, updated-map}
 
 -- a committed answer is its server's output
 unfoldable pub told : (ℕ → ℕ) → ℕ → Answer → ℕ → ℕ
@@ -61,7 +61,7 @@ offers σ q = offerOf (σ q .own)
 
 -- only phase 3 has an output
 pub quiet : (v : Server) → v .phase ≤ 2 → outputOf v ≡ 0
-quiet v h = ap (λ t. cond t (v .inp) 0) (ne-eqb (v .phase) 3 (λ e. omega arith))
+quiet v h = ap (λ t. cond t (v .agreed) 0) (ne-eqb (v .phase) 3 (λ e. omega arith))
 
 -- one node changed, and what it shows did not
 unchanged : (f : Server → ℕ) (σ : Slot) (p : ℕ) (m : Node) → f (m .own) ≡ f (σ p .own) → (q : ℕ)
@@ -82,7 +82,7 @@ TellsOffers σ st q r = offers (after σ st r) q ≡ offersAfter (offers σ) st 
 
 module _ (c : Config) (off : ℕ) (σ : Slot) (q : ℕ) where
   pub outputs-told : (st : Step) → TellsOutputs σ st q (ruled c off σ st)
-  unfolding ruleOf after outputsAfter told offerRule marking meeting topping recalling rejoining bidding writing reading proposing committing
+  unfolding ruleOf after outputsAfter told offerRule marking meeting topping recalling rejoining bidding writing reading proposing agreeing
   outputs-told (Offer p s v) = unchanged outputOf σ p _ refl q
   outputs-told (Recall p s d) =
       recall-cases (TellsOutputs σ (Recall p s d) q) (λ n. refl) (σ p .own) off (σ p .disk d) p d
@@ -99,6 +99,7 @@ module _ (c : Config) (off : ℕ) (σ : Slot) (q : ℕ) where
       read-cases (TellsOutputs σ (Read p s d r) q) (λ n. refl) (σ p .own) (c .servers) off (σ r .disk d) p d r
       (λ two here low. unchanged outputOf σ p _ refl q)
       (λ b two mine up. unchanged outputOf σ p _ (sym (quiet (σ p .own) (two .most))) q)
+      (λ two some. changed outputOf σ p _ q)
   outputs-told (Finish p s) =
       finish-cases (TellsOutputs σ (Finish p s) q) (λ n. refl) (σ p .own) (c .servers) (c .drives) p
       (λ one most some. unchanged outputOf σ p _ (sym (quiet (σ p .own) (omega arith))) q)
@@ -109,13 +110,14 @@ module _ (c : Config) (off : ℕ) (σ : Slot) (q : ℕ) where
 
   -- where every end of the step's rule leaves the offers as its view tells
   offer-ends : (st : Step) → AllGive (TellsOffers σ st q) (ruleOf c off σ st)
-  unfolding ruleOf after offersAfter offerRule recallRule rejoinRule bidRule writeRule outbidRule readRule finishRule marking meeting topping recalling rejoining bidding writing reading proposing committing
+  unfolding ruleOf after offersAfter offerRule recallRule rejoinRule bidRule writeRule outbidRule readRule finishRule marking meeting topping recalling rejoining bidding writing reading proposing agreeing
   offer-ends (Offer p s v) = changed offerOf σ p _ q
   offer-ends (Recall p s d) = unchanged offerOf σ p _ refl q
   offer-ends (Rejoin p s b) = unchanged offerOf σ p _ refl q
   offer-ends (Bid p s b) = unchanged offerOf σ p _ refl q
   offer-ends (Write p s d) = unchanged offerOf σ p _ refl q
-  offer-ends (Read p s d r) = (unchanged offerOf σ p _ refl q, unchanged offerOf σ p _ refl q)
+  offer-ends (Read p s d r) =
+      (unchanged offerOf σ p _ refl q, (unchanged offerOf σ p _ refl q, unchanged offerOf σ p _ refl q))
   offer-ends (Finish p s) = (unchanged offerOf σ p _ refl q, unchanged offerOf σ p _ refl q)
   offer-ends (Fail p) = changed offerOf σ p _ q
   offer-ends (DriveOff d) = refl
@@ -126,68 +128,45 @@ module _ (c : Config) (off : ℕ) (σ : Slot) (q : ℕ) where
   offers-told st = all-give Refused (TellsOffers σ st q) (λ n. refl) (ruleOf c off σ st) (offer-ends st)
 
 -- 0 for done to 3 for committed; 4 for a refusal
-abbrev wordOf : Ruling → ℕ
+abbrev pub wordOf : Ruling → ℕ
 wordOf (Refused n) = 4
 wordOf (Accepted v a) = codeOf a
 
-abbrev commandIn : Ruling → ℕ
-commandIn (Refused n) = 0
-commandIn (Accepted v a) = numberOf a
+-- the server that acts; 0 where there is none
+abbrev pub viewServer : View → ℕ
+viewServer (AtSlot p s k) = p
+viewServer (AtServer p) = p
+viewServer (AtDrive d on) = 0
 
--- a committed answer with the command x: a Finish by a server without an output, whose output is x from then on
-pub record CommittedBy (σ : Slot) (st : Step) (r : Ruling) (x : ℕ) : Type 0 where
-  pub server : ℕ
-  pub slot : ℕ
-  pub step : st ≡ Finish server slot
-  pub phase : σ server .own .phase ≡ 2
-  pub before : outputs σ server ≡ 0
-  pub afterwards : outputs (after σ st r) server ≡ x
+-- if r is committed, then its server had no output
+abbrev TellsCommit : Slot → Step → Ruling → Type 0
+TellsCommit σ st r = wordOf r ≡ 3 → outputs σ (viewServer (viewOf st)) ≡ 0
 
--- if r is committed with x, then as CommittedBy says
-abbrev TellsCommit : Slot → Step → ℕ → Ruling → Type 0
-TellsCommit σ st x r = wordOf r ≡ 3 → commandIn r ≡ x → CommittedBy σ st r x
-
-module _ (c : Config) (off : ℕ) (σ : Slot) (x : ℕ) where
-  finished : (p s : ℕ) → σ p .own .phase ≡ 2 → σ p .own .inp ≡ x
-      → CommittedBy σ (Finish p s) (Accepted (committing (σ p .own)) (answer.Committed (σ p .own .inp))) x
-  unfolding after committing
-  finished p s two same =
-      record {
-        server = p;
-        slot = s;
-        step = refl;
-        phase = two;
-        before = quiet (σ p .own) (omega arith);
-        afterwards = ap (λ n. outputOf (n .own)) (updated-at σ p _) ∙ same;
-      }
-
-  tells-commit : (st : Step) → TellsCommit σ st x (ruled c off σ st)
+module _ (c : Config) (off : ℕ) (σ : Slot) where
+  pub none-before : (st : Step) → TellsCommit σ st (ruled c off σ st)
   unfolding ruleOf offerRule
-  tells-commit (Offer p s v) = λ e. absurd (omega arith)
-  tells-commit (Recall p s d) =
-      recall-cases (TellsCommit σ (Recall p s d) x) (λ n e. absurd (omega arith)) (σ p .own) off (σ p .disk d) p d
+  none-before (Offer p s v) = λ e. absurd (omega arith)
+  none-before (Recall p s d) =
+      recall-cases (TellsCommit σ (Recall p s d)) (λ n e. absurd (omega arith)) (σ p .own) off (σ p .disk d) p d
       (λ phase e. absurd (omega arith))
-  tells-commit (Rejoin p s b) =
-      rejoin-cases (TellsCommit σ (Rejoin p s b) x) (λ n e. absurd (omega arith)) (σ p .own) (c .servers) (c .drives) p b
+  none-before (Rejoin p s b) =
+      rejoin-cases (TellsCommit σ (Rejoin p s b)) (λ n e. absurd (omega arith)) (σ p .own) (c .servers) (c .drives) p b
       (λ mine phase most up e. absurd (omega arith))
-  tells-commit (Bid p s b) =
-      bid-cases (TellsCommit σ (Bid p s b) x) (λ n e. absurd (omega arith)) (σ p .own) (c .servers) p b
+  none-before (Bid p s b) =
+      bid-cases (TellsCommit σ (Bid p s b)) (λ n e. absurd (omega arith)) (σ p .own) (c .servers) p b
       (λ mine two up e. absurd (omega arith))
-  tells-commit (Write p s d) =
-      write-cases (TellsCommit σ (Write p s d) x) (λ n e. absurd (omega arith)) (σ p .own) off d
+  none-before (Write p s d) =
+      write-cases (TellsCommit σ (Write p s d)) (λ n e. absurd (omega arith)) (σ p .own) off d
       (λ two e. absurd (omega arith))
-  tells-commit (Read p s d r) =
-      read-cases (TellsCommit σ (Read p s d r) x) (λ n e. absurd (omega arith)) (σ p .own) (c .servers) off (σ r .disk d) p d r
+  none-before (Read p s d r) =
+      read-cases (TellsCommit σ (Read p s d r)) (λ n e. absurd (omega arith)) (σ p .own) (c .servers) off (σ r .disk d) p d r
       (λ two here low e. absurd (omega arith))
       (λ b two mine up e. absurd (omega arith))
-  tells-commit (Finish p s) =
-      finish-cases (TellsCommit σ (Finish p s) x) (λ n e. absurd (omega arith)) (σ p .own) (c .servers) (c .drives) p
+      (λ two some e. quiet (σ p .own) (two .most))
+  none-before (Finish p s) =
+      finish-cases (TellsCommit σ (Finish p s)) (λ n e. absurd (omega arith)) (σ p .own) (c .servers) (c .drives) p
       (λ one most some e. absurd (omega arith))
-      (λ two most e same. finished p s two same)
-  tells-commit (Fail p) = λ e. absurd (omega arith)
-  tells-commit (DriveOff d) = λ e. absurd (omega arith)
-  tells-commit (DriveOn d) = λ e. absurd (omega arith)
-
-  pub committed-by : (st : Step) (v : Server) → ruled c off σ st ≡ Accepted v (answer.Committed x)
-      → CommittedBy σ st (ruled c off σ st) x
-  committed-by st v e = tells-commit st (ap wordOf e) (ap commandIn e)
+      (λ two most e. quiet (σ p .own) (omega arith))
+  none-before (Fail p) = λ e. absurd (omega arith)
+  none-before (DriveOff d) = λ e. absurd (omega arith)
+  none-before (DriveOn d) = λ e. absurd (omega arith)

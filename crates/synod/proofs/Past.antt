@@ -1,6 +1,8 @@
 -- What the steps and answers so far tell of a slot.
 use Prim.Native.Nat.{ℕ}
+use mathlib.Core.Bool.{cond}
 use mathlib.Core.List.{List, [], _∷_}
+use lib.Dec.{eqb}
 use Rattle.state.specs.declared.Step.{Step}
 use Rattle.state.specs.declared.Answer.{Answer}
 use Rattle.state.specs.declared.Answer.the-variants as answer
@@ -14,8 +16,8 @@ pub record Tried : Type 0 where
   pub ballot : ℕ
   pub command : ℕ
 
--- The commands offered; each chosen answer as a proposal and each committed answer as a commit, with the ballot of the
--- server that gave it. The latest stands first.
+-- The commands offered; each chosen answer as a proposal, with the ballot of the server that gave it; each committed answer
+-- as a commit. The latest stands first.
 pub record Ghost : Type 0 where
   pub offered : List ℕ
   pub proposals : List Tried
@@ -35,12 +37,18 @@ abbrev pub noteCommit : ℕ → ℕ → Ghost → Ghost
 noteCommit b v g =
     record { offered = g .offered; proposals = g .proposals; commits = record { ballot = b; command = v } ∷ g .commits }
 
+-- The ballot with which a commit of v is noted, by a server with the ballot mbal. Where v was committed before, it is the
+-- ballot of that commit: a server that learned v tried nothing in its own.
+unfoldable pub commitBallot : ℕ → ℕ → List Tried → ℕ
+commitBallot mbal v [] = mbal
+commitBallot mbal v (t ∷ l) = cond (eqb (t .command) v) (t .ballot) (commitBallot mbal v l)
+
 -- what an answer adds, given by a server with the ballot mbal
 unfoldable pub heard : Ghost → ℕ → Answer → Ghost
 heard g mbal answer.Done = g
 heard g mbal (answer.Outbid b) = g
 heard g mbal (answer.Chosen c) = noteProposal mbal c g
-heard g mbal (answer.Committed c) = noteCommit mbal c g
+heard g mbal (answer.Committed c) = noteCommit (commitBallot mbal c (g .commits)) c g
 heard g mbal (answer.Refused n) = g
 
 -- what a deed adds

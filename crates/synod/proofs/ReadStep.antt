@@ -50,7 +50,8 @@ module _ {c : Config} {g : Ghost} {σ : Slot} (fits : Fits c) (inv : Invariant c
               written-own = s .written-own;
               read-written = λ h e r lr k. written h e r lr (new-or-old e r lr k);
               offer-offered = s .offer-offered;
-              settled = λ h. absurd (omega arith);
+              own-agreed = s .own-agreed;
+              disk-agreed = s .disk-agreed;
             };
         blocks = λ e. inl refl;
         ahead = advance-ahead inv p lp _ steady;

@@ -35,7 +35,7 @@ module _ {c : Config} {g : Ghost} {σ : Slot} (inv : Invariant c g σ) (p : ℕ)
         begun = λ h. absurd (omega arith);
         known = s .seen-known;
         offer = s .offer-offered;
-        settled = λ h. absurd (omega arith);
+        agreed = s .own-agreed;
       })
       (λ h. omega arith)
       (λ e v pr mine.
@@ -80,7 +80,8 @@ module _ {c : Config} {g : Ghost} {σ : Slot} (inv : Invariant c g σ) (p : ℕ)
               written-own = s .written-own;
               read-written = λ h. absurd (omega arith);
               offer-offered = s .offer-offered;
-              settled = λ h. absurd (omega arith);
+              own-agreed = s .own-agreed;
+              disk-agreed = s .disk-agreed;
             };
         blocks = λ e. inl refl;
         ahead = λ b v pr ow. record { reached = λ h. absurd (omega arith); passed = λ h. absurd (omega arith) };

@@ -16,16 +16,16 @@ use Rattle.state.specs.declared.Block.{Block}
 use Rattle.state.specs.declared.Server.{Server}
 use Rattle.state.specs.declared.Step.{Step}
 use Rattle.state.specs.declared.Step.the-variants.{Offer, Recall, Rejoin, Bid, Write, Read, Finish, Fail, DriveOff, DriveOn}
-use Rattle.state.specs.declared.Answer.the-variants.{Done, Outbid, Chosen, Committed}
+use Rattle.state.specs.declared.Answer.the-variants.{Done, Outbid, Chosen}
 use Rattle.state.specs.Server.{failed}
 use Rattle.state.specs.View.{Brings, Stores, Alone, View, AtSlot, AtServer, AtDrive, viewOf}
 use Rattle.synod.specs.declared.Ruling.{Ruling}
 use Rattle.synod.specs.declared.Ruling.the-variants.{Refused, Accepted}
-use Rattle.synod.specs.Changes.{recalling, rejoining, bidding, writing, reading, proposing, committing}
+use Rattle.synod.specs.Changes.{meeting, topping, recalling, rejoining, bidding, writing, reading, proposing}
 use Rattle.checks.specs.Checks.{must}
 use Rattle.checks.proofs.CheckLaws.{must-cases, either-cases}
 use Rattle.synod.proofs.Machine.{ruled}
-use Rattle.synod.specs.Rules.{balloting, recalledOn, completeOn, commandOf, recallRule, rejoinRule, bidRule, writeRule, outbidRule, readRule, finishRule, ruling, ruleOf}
+use Rattle.synod.specs.Rules.{balloting, joined, recalledOn, completeOn, commandOf, recallRule, rejoinRule, bidRule, writeRule, outbidRule, learnRule, readRule, commitRule, finishRule, ruling, ruleOf}
 use Rattle.synod.specs.Slot.{Slot, Config}
 use Rattle.lemmas.proofs.Tests.{or-either}
 
@@ -40,6 +40,14 @@ ballots v h = by-case (or-either (eqb (v .phase) 1) (eqb (v .phase) 2) h)
     by-case : (eqb (v .phase) 1 ≡ true) ⊎ (eqb (v .phase) 2 ≡ true) → Balloting v
     by-case (inl e) = let h = eqb-true (v .phase) 1 e in record { least = omega arith; most = omega arith }
     by-case (inr e) = let h = eqb-true (v .phase) 2 e in record { least = omega arith; most = omega arith }
+
+-- phase 1, 2 or 3, by number
+joins : (v : Server) → joined v ≡ true → 1 ≤ v .phase
+joins v h = by-case (or-either (balloting v) (eqb (v .phase) 3) h)
+  where
+    by-case : (balloting v ≡ true) ⊎ (eqb (v .phase) 3 ≡ true) → 1 ≤ v .phase
+    by-case (inl e) = ballots v e .least
+    by-case (inr e) = let h = eqb-true (v .phase) 3 e in omega arith
 
 module _ (P : Ruling → Type 0) where
   outbid-cases : (v : Server) (found : ℕ) (next : Next) → P (Refused 13)
@@ -79,34 +87,38 @@ module _ (P : Ruling → Type 0) where
         must-cases Refused P _ _ _ (stop _) (λ up.
         way mine (ballots v phase) (omega (arith, ltb-true)))))
 
-    pub write-cases : (off d : ℕ) → (Balloting v → P (Accepted (writing v d) Done)) → P (ruling (writeRule off v d))
+    pub write-cases : (off d : ℕ) → (1 ≤ v .phase → P (Accepted (writing v d) Done)) → P (ruling (writeRule off v d))
     unfolding writeRule
     write-cases off d way =
         must-cases Refused P _ _ _ (stop _) (λ phase.
         must-cases Refused P _ _ _ (stop _) (λ on.
-        way (ballots v phase)))
+        way (joins v phase)))
 
     pub read-cases : (servers off : ℕ) (b : Block) (p d q : ℕ)
         → (Balloting v → stands (v .written) d ≡ true → b .mbal < v .mbal → P (Accepted (reading v b d q) Done))
         → ((next : ℕ) → Balloting v → owned servers p next ≡ true → v .mbal < next → P (Accepted (bidding v next) (Outbid (b .mbal))))
+        → (Balloting v → (b .done ≡ 0 → ⊥) → P (ruling (learnRule v b)))
         → P (ruling (readRule servers off v b p d q))
     unfolding readRule
-    read-cases servers off b p d q way outbid =
+    read-cases servers off b p d q way outbid learn =
         must-cases Refused P _ _ _ (stop _) (λ phase.
         must-cases Refused P _ _ _ (stop _) (λ on.
         must-cases Refused P _ _ _ (stop _) (λ here.
+        either-cases P _ _ _
+        (λ some. learn (ballots v phase) (eqb-false (b .done) 0 (not-true (eqb (b .done) 0) some)))
+        (λ none.
         either-cases P _ _ _
         (λ low. way (ballots v phase) here (ltb-true (b .mbal) (v .mbal) low))
         (λ high.
         outbid-cases v (b .mbal) (nextOwn servers p (b .mbal)) (stop 13) (λ next e.
         let least = ltb-false (b .mbal) (v .mbal) high in
         let up = next-above servers p (b .mbal) next e in
-        outbid next (ballots v phase) (next-owned servers p (b .mbal) next e) (omega arith))))))
+        outbid next (ballots v phase) (next-owned servers p (b .mbal) next e) (omega arith)))))))
 
     pub finish-cases : (servers drives p : ℕ)
         → (v .phase ≡ 1 → majority drives (completeOn servers v p) ≡ true → (commandOf v ≡ 0 → ⊥)
         → P (Accepted (proposing v (commandOf v)) (Chosen (commandOf v))))
-        → (v .phase ≡ 2 → majority drives (completeOn servers v p) ≡ true → P (Accepted (committing v) (Committed (v .inp))))
+        → (v .phase ≡ 2 → majority drives (completeOn servers v p) ≡ true → P (ruling (commitRule v)))
         → P (ruling (finishRule servers drives v p))
     unfolding finishRule
     finish-cases servers drives p choose commit =
@@ -146,3 +158,9 @@ plain c off σ (Finish p s) = tt
 plain c off σ (Fail p) = refl
 plain c off σ (DriveOff d) = refl
 plain c off σ (DriveOn d) = refl
+
+-- 2 Recall does not look at done
+pub recall-ignores-done : (off : ℕ) (v : Server) (b : Block) (done p d : ℕ)
+    → recallRule off v (record { mbal = b .mbal; bal = b .bal; inp = b .inp; done = done }) p d ≡ recallRule off v b p d
+unfolding recallRule recalling topping meeting
+recall-ignores-done off v b done p d = refl

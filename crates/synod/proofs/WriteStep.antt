@@ -10,7 +10,7 @@ use Rattle.synod.specs.Changes.{writing}
 use Rattle.synod.proofs.Machine.{withBlock}
 use Rattle.synod.proofs.Past.{Ghost}
 use Rattle.synod.specs.Slot.{Slot, Config, updated}
-use Rattle.synod.proofs.Ghosts.{Known}
+use Rattle.synod.proofs.Ghosts.{Known, Agreed, shown-agreed}
 use Rattle.synod.proofs.Marks.{wrote, marked-or, marked-still}
 use Rattle.synod.proofs.Update.{everywhere}
 use Rattle.synod.proofs.One.{Sound}
@@ -32,9 +32,9 @@ module _ {c : Config} {g : Ghost} {σ : Slot} (inv : Invariant c g σ) (p : ℕ)
       before e ne (inl same) = absurd (ne same)
       before e ne (inr old) = inv .each p lp .written-own e old
 
-  pub write-change : 1 ≤ σ p .own .phase → σ p .own .phase ≤ 2 → Change c g σ p (withBlock (σ p) d (writing (σ p .own) d))
+  pub write-change : 1 ≤ σ p .own .phase → Change c g σ p (withBlock (σ p) d (writing (σ p .own) d))
   unfolding writing
-  write-change low high =
+  write-change low =
       record {
         sound =
             record {
@@ -50,7 +50,11 @@ module _ {c : Config} {g : Ghost} {σ : Slot} (inv : Invariant c g σ) (p : ℕ)
               written-own = written;
               read-written = λ h e q lt k. marked-still (σ p .own .written) d e ld (s .read-written h e q lt k);
               offer-offered = s .offer-offered;
-              settled = λ h. absurd (omega arith);
+              own-agreed = s .own-agreed;
+              disk-agreed =
+                  everywhere (λ e x. Agreed g (x .done)) (σ p .disk) d (ownBlock (σ p .own))
+                  (shown-agreed g (σ p .own) (s .own-agreed))
+                  (λ e ne. s .disk-agreed e);
             };
         blocks =
             everywhere (λ e x. (x ≡ σ p .disk e) ⊎ ((1 ≤ σ p .own .phase) × (x ≡ ownBlock (σ p .own)))) (σ p .disk) d

@@ -5,7 +5,7 @@ use lib.Dec.{ltb}
 use Rattle.quorum.specs.Marks.{marked}
 use Rattle.state.specs.declared.Block.{Block}
 use Rattle.state.specs.declared.Server.{Server}
-use Rattle.state.specs.Server.{withOwn, withNotes, cleared}
+use Rattle.state.specs.Server.{withOwn, withNotes, withAgreed, cleared}
 
 -- the bit of server q's block on drive d in the read marks
 abbrev pub readBit : ℕ → ℕ → ℕ
@@ -27,7 +27,11 @@ marking v d q = withNotes v (v .top) (v .seenbal) (v .seeninp) (v .written) (mar
 unfoldable pub topping : Server → ℕ → Server
 topping v mbal = withNotes v (max (v .top) mbal) (v .seenbal) (v .seeninp) (v .written) (v .read)
 
--- 2 Recall: server p's own block b on drive d is read
+-- phase 3, agreed becomes the command; clear. The own mbal, bal and inp stay
+unfoldable pub agreeing : Server → ℕ → Server
+agreeing v command = cleared (withAgreed v command)
+
+-- 2 Recall: server p's own block b on drive d is read; its done is not looked at
 unfoldable pub recalling : Server → Block → ℕ → ℕ → Server
 recalling v b p d = meeting (topping (marking v d p) (b .mbal)) b
 
@@ -50,7 +54,3 @@ reading v b d q = meeting (marking v d q) b
 -- 7 Finish, phase 1: bal becomes mbal, inp the command; phase 2; clear
 unfoldable pub proposing : Server → ℕ → Server
 proposing v command = cleared (withOwn v 2 (v .mbal) (v .mbal) command)
-
--- 7 Finish, phase 2: phase 3; clear
-unfoldable pub committing : Server → Server
-committing v = cleared (withOwn v 3 (v .mbal) (v .bal) (v .inp))

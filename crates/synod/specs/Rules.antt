@@ -19,7 +19,7 @@ use Rattle.state.specs.Server.{withOffer, failed}
 use Rattle.state.specs.View.{View, AtSlot, AtServer, AtDrive}
 use Rattle.synod.specs.declared.Ruling.{Ruling}
 use Rattle.synod.specs.declared.Ruling.the-variants.{Refused, Accepted}
-use Rattle.synod.specs.Changes.{readBit, recalling, rejoining, bidding, writing, reading, proposing, committing}
+use Rattle.synod.specs.Changes.{readBit, recalling, rejoining, bidding, writing, reading, proposing, agreeing}
 use Rattle.synod.specs.Slot.{Slot, Config}
 
 -- A rule gives the record of the step's server as it becomes, and the answer. A Write puts the own block of that record
@@ -37,6 +37,10 @@ ruling = outcome Refused
 -- phase 1 or 2
 abbrev pub balloting : Server → Bool
 balloting v = eqb (v .phase) 1 || eqb (v .phase) 2
+
+-- phase 1, 2 or 3
+abbrev pub joined : Server → Bool
+joined v = balloting v || eqb (v .phase) 3
 
 -- the drives on which server p's own block was recalled
 abbrev pub recalledOn : Server → ℕ → ℕ → Bool
@@ -82,10 +86,10 @@ bidRule servers v p ballot =
     (Must (ltb (v .mbal) ballot) 11
     (does (bidding v ballot) Done)))
 
--- 5 Write, phase 1 or 2
+-- 5 Write, phase 1, 2 or 3
 unfoldable pub writeRule : ℕ → Server → ℕ → Rule
 writeRule off v d =
-    Must (balloting v) 7
+    Must (joined v) 7
     (Must (not (stands off d)) 8
     (does (writing v d) Done))
 
@@ -102,19 +106,34 @@ ballotIn Spent = 0
 unfoldable pub outbidRule : Server → ℕ → Next → Rule
 outbidRule v found next = Must (not (isSpent next)) 13 (does (bidding v (ballotIn next)) (Outbid found))
 
--- 6 Read, phase 1 or 2, d written in this phase; b server q's block on drive d
+-- the slot is settled with the command
+abbrev pub agreeRule : Server → ℕ → Rule
+agreeRule v command = does (agreeing v command) (Committed command)
+
+-- a block says what the slot was settled with
+abbrev pub learnRule : Server → Block → Rule
+learnRule v b = agreeRule v (b .done)
+
+-- 6 Read, phase 1 or 2, d written in this phase; b server q's block on drive d. A done is learned; only where there is none
+-- do the ballots count
 unfoldable pub readRule : ℕ → ℕ → Server → Block → ℕ → ℕ → ℕ → Rule
 readRule servers off v b p d q =
     Must (balloting v) 7
     (Must (not (stands off d)) 8
     (Must (stands (v .written) d) 9
+    (Either (not (eqb (b .done) 0))
+    (learnRule v b)
     (Either (ltb (b .mbal) (v .mbal))
     (does (reading v b d q) Done)
-    (outbidRule v (b .mbal) (nextOwn servers p (b .mbal))))))
+    (outbidRule v (b .mbal) (nextOwn servers p (b .mbal)))))))
 
 -- the command of phase 1: seeninp, or offer if that is 0
 abbrev pub commandOf : Server → ℕ
 commandOf v = cond (eqb (v .seeninp) 0) (v .offer) (v .seeninp)
+
+-- the command tried in phase 2 is settled
+abbrev pub commitRule : Server → Rule
+commitRule v = agreeRule v (v .inp)
 
 -- 7 Finish, phase 1 or 2, a majority of drives written with every other server's block read there
 unfoldable pub finishRule : ℕ → ℕ → Server → ℕ → Rule
@@ -123,7 +142,7 @@ finishRule servers drives v p =
     (Must (majority drives (completeOn servers v p)) 10
     (Either (eqb (v .phase) 1)
     (Must (not (eqb (commandOf v) 0)) 12 (does (proposing v (commandOf v)) (Chosen (commandOf v))))
-    (does (committing v) (Committed (v .inp)))))
+    (commitRule v)))
 
 -- 8 Fail, in every slot: nothing is left of the record
 abbrev pub failRule : Rule

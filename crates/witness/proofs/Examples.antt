@@ -6,7 +6,7 @@ use Rattle.ballot.specs.Ballot.{owned, leastAbove, nextOwn}
 use Rattle.quorum.specs.Marks.{stands, marked, unmarked}
 use Rattle.quorum.specs.Sets.{allBelow, size, gathered, majority, within}
 use Rattle.synod.specs.Arguments.{placesFit, commandFits}
-use Rattle.synod.specs.Changes.{meeting, marking, topping, recalling, rejoining, bidding, writing, reading, proposing, committing}
+use Rattle.synod.specs.Changes.{meeting, marking, topping, recalling, rejoining, bidding, writing, reading, proposing, agreeing}
 use Rattle.checks.specs.Checks.{must}
 use Rattle.synod.specs.Rules.{ruleOf, finishRule, offerRule, outbidRule, readRule, recallRule, rejoinRule, writeRule}
 use Rattle.layout.specs.Places.{slotLength, roomLength, slotAt, serverAt, nthBlockAt, blockAt, sizesFit}
@@ -25,15 +25,15 @@ use Rattle.starred.specs.Runs.{newRoom}
 use Rattle.history.specs.Run.{ran, history, moveOf, outputBy, firstOutput}
 use Rattle.register.specs.OneHistory.{commandsOf}
 use Rattle.witness.specs.Example.{callsOf, said, Worked}
-use Rattle.witness.specs.Runs.{survivor, rivals, gap, halves, asks, strikes, reuses}
+use Rattle.witness.specs.Runs.{survivor, rivals, gap, halves, asks, learners, strikes, reuses}
 use Rattle.witness.proofs.Reading.{Computed, holds}
 
 -- the lines name all that the definitions of open, step, ask, put and catalogue are made of
-computed : Computed survivor × Computed rivals × Computed gap × Computed halves × Computed asks × Computed strikes × Computed reuses
-unfolding survivor rivals gap halves asks strikes reuses newRoom callsOf ran history onesIn ones
+computed : Computed survivor × Computed rivals × Computed gap × Computed halves × Computed asks × Computed learners × Computed strikes × Computed reuses
+unfolding survivor rivals gap halves asks learners strikes reuses newRoom callsOf ran history onesIn ones
     limitOf hoardFits isCommand owned leastAbove nextOwn stands marked unmarked allBelow size gathered majority within
     placesFit commandFits
-    meeting marking topping recalling rejoining bidding writing reading proposing committing
+    meeting marking topping recalling rejoining bidding writing reading proposing agreeing
     must offerRule recallRule rejoinRule writeRule outbidRule readRule finishRule
     slotLength roomLength slotAt serverAt nthBlockAt blockAt sizesFit serverOf putServer blockOf putBlock
     legalDrives legalReads valueFits numbersFit serverFits blockFits serversFit blocksFit slotFits cellsFit inRange
@@ -41,7 +41,7 @@ unfolding survivor rivals gap halves asks strikes reuses newRoom callsOf ran his
     freeAt firstFrom lowestFree askChecks asked putRule putJudged putAnswered putCells
     applies entry cellsAfter skippedBy folded outputAt leading outputsOf entriesOf catalogueChecks catalogueOf catalogueCells
     said commandsOf firstOutput outputBy moveOf
-computed = (refl, refl, refl, refl, refl, refl, refl)
+computed = (refl, refl, refl, refl, refl, refl, refl, refl)
 
 -- one server commits and fails, and the other, with another offer, commits the same command
 pub survivor-holds : Worked survivor
@@ -63,10 +63,14 @@ halves-hold = holds halves (computed .3)
 pub asks-holds : Worked asks
 asks-holds = holds asks (computed .4)
 
+-- a late server, and one that has failed, learn the command without a Finish
+pub learners-hold : Worked learners
+learners-hold = holds learners (computed .5)
+
 -- a strike of an entered piece is not skipped
 pub strikes-holds : Worked strikes
-strikes-holds = holds strikes (computed .5)
+strikes-holds = holds strikes (computed .6)
 
 -- an enter, a move and a strike of its number after that are skipped
 pub reuses-holds : Worked reuses
-reuses-holds = holds reuses (computed .6)
+reuses-holds = holds reuses (computed .7)

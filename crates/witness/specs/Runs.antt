@@ -1,6 +1,6 @@
--- Five runs of two servers: a command that survives its server, two rivals, a slot beyond an empty one, half of the
--- drives, and lines that are asked for and filled. Two of one server: a strike, and a struck number that is used again in
--- vain.
+-- Six runs of two servers: a command that survives its server, two rivals, a slot beyond an empty one, half of the drives,
+-- lines that are asked for and filled, and a settled command that is learned. Two of one server: a strike, and a struck
+-- number that is used again in vain.
 use Prim.Native.Nat.{ℕ}
 use mathlib.Core.List.{List, [], _∷_, _++_}
 use lib.ListN.{set, replicate}
@@ -155,6 +155,30 @@ asks =
       taken = 2 ∷ 0 ∷ [];
       skipped = 0 ∷ 0 ∷ [];
       left = only 5 12 ∷ replicate pieces 0 ∷ [];
+    }
+
+-- in slot 0 server p recalls drive 0, joins, writes drive d, and learns v from q's block there
+abbrev pub learns : ℕ → ℕ → ℕ → ℕ → ℕ → List Event
+learns p q d ballot v =
+    Took (Recall p 0 0) Done ∷ Took (Rejoin p 0 ballot) Done ∷ Took (Write p 0 d) Done ∷ Took (Read p 0 d q) (Committed v) ∷ []
+
+-- Server 0 settles its offer on drive 0 and writes both drives once more. Server 1, with another offer, joins late and learns
+-- from drive 1, without a Finish. It writes drive 0; server 0 fails, joins again and learns from that.
+unfoldable pub learners : Example
+learners =
+    record {
+      sizes = sizes 2 2 1;
+      run =
+          (Took (Offer 0 0 enter5) Done ∷ settles 0 1 0 1 enter5)
+          ++ (Took (Write 0 0 0) Done ∷ Took (Write 0 0 1) Done ∷ [])
+          ++ (Took (Offer 1 0 enter7) Done ∷ learns 1 0 1 2 enter5)
+          ++ (Took (Write 1 0 0) Done ∷ Took (Fail 0) Done ∷ learns 0 1 0 3 enter5);
+      chosen = enter5 ∷ [];
+      committed = enter5 ∷ enter5 ∷ enter5 ∷ [];
+      commands = enter5 ∷ [];
+      taken = 1 ∷ 1 ∷ [];
+      skipped = 0 ∷ 0 ∷ [];
+      left = only 5 9 ∷ only 5 9 ∷ [];
     }
 
 -- in a room of one server and one drive the server offers v in slot s and commits it

@@ -41,7 +41,7 @@ fn main() {
     for sizes in sizes {
         let states = [
             ("empty", rooms::empty(sizes).room),
-            ("settled", rooms::settled(sizes)),
+            ("filled", rooms::filled(sizes).room),
             ("mixed", rooms::mixed(sizes)),
             ("run", rooms::run(sizes).last),
         ];

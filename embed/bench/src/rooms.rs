@@ -19,8 +19,9 @@ pub fn empty(sizes: Sizes) -> Work {
     Work { room, records: steps.map(record).collect() }
 }
 
-/// A room with a command in every cell that can hold one and every server in
-/// phase 2. Each server writes its block to each drive in each slot.
+/// A room with a command in every cell that can hold one: every server has settled
+/// every slot and told it on every drive. Each server writes its block to each drive
+/// in each slot once more.
 pub fn filled(sizes: Sizes) -> Work {
     let mut room = empty(sizes).room;
     let mut chance = Chance::new(1);
@@ -30,13 +31,14 @@ pub fn filled(sizes: Sizes) -> Work {
             let ballot =
                 least_own_above(chance.below(900_000), server as u32, sizes.servers as u32);
             let (ballot, command) = (ballot.unwrap_or(1), command(&mut chance));
-            room[at..at + 4].copy_from_slice(&[2, ballot, ballot, command]);
+            room[at..at + 4].copy_from_slice(&[3, ballot, ballot, command]);
             room[at + 4] = self::command(&mut chance);
             room[at + 6] = ballot;
             room[at + 7] = command;
+            room[at + 10] = command;
             for drive in 0..sizes.drives {
                 let at = sizes.block_at(slot, drive, server);
-                room[at..at + 3].copy_from_slice(&[ballot, ballot, command]);
+                room[at..at + 4].copy_from_slice(&[ballot, ballot, command, command]);
             }
         }
     }
@@ -45,21 +47,10 @@ pub fn filled(sizes: Sizes) -> Work {
     Work { room, records: steps.map(record).collect() }
 }
 
-/// A room with a settled command in every slot of every server.
-pub fn settled(sizes: Sizes) -> Vec<u32> {
-    let mut room = filled(sizes).room;
-    for slot in 0..sizes.slots {
-        for server in 0..sizes.servers {
-            room[sizes.server_at(slot, server)] = 3;
-        }
-    }
-    room
-}
-
-/// The same, but with another ballot and command in every block: no run leaves the
+/// The same room, but with other ballots and commands in every block: no run leaves the
 /// drives so, and no block is like the one on the drive before it.
 pub fn mixed(sizes: Sizes) -> Vec<u32> {
-    let mut room = settled(sizes);
+    let mut room = filled(sizes).room;
     let mut chance = Chance::new(4);
     for slot in 0..sizes.slots {
         for drive in 0..sizes.drives {
@@ -68,6 +59,7 @@ pub fn mixed(sizes: Sizes) -> Vec<u32> {
                 let ballots = [chance.below(900_000), chance.below(900_000)];
                 room[at..at + 2].copy_from_slice(&ballots);
                 room[at + 2] = command(&mut chance);
+                room[at + 3] = command(&mut chance);
             }
         }
     }
@@ -84,8 +76,16 @@ pub struct Run {
 /// 2,000 steps of servers that follow the protocol, from a room just opened.
 pub fn run(sizes: Sizes) -> Run {
     let mut chance = Chance::new(3);
-    let habits =
-        Habits { noise: 20, failures: 2, switches: 5, bids: 2, turn: 40, high: 0, half_off: false };
+    let habits = Habits {
+        noise: 20,
+        failures: 2,
+        switches: 5,
+        bids: 2,
+        tells: 200,
+        turn: 40,
+        high: 0,
+        half_off: false,
+    };
     let mut driver = Driver::new(&mut chance, sizes, habits);
     let first = empty(sizes).room;
     let mut room = first.clone();

@@ -7,14 +7,14 @@ use crate::refusal;
 /// The cells before the first slot: N, D, S and the off marks.
 const HEAD: usize = 4;
 /// The cells of a server record.
-pub(crate) const RECORD: usize = 10;
+pub(crate) const RECORD: usize = 11;
 /// The cells of a block.
-pub(crate) const BLOCK: usize = 3;
+pub(crate) const BLOCK: usize = 4;
 /// The cell of the off marks.
 pub(crate) const OFF: usize = 3;
 
 /// The length of the largest room, 4 servers, 7 drives and 16 slots.
-pub const MOST_CELLS: usize = 1988;
+pub const MOST_CELLS: usize = 2500;
 
 /// The sizes of a room. They fit where they come from [`Sizes::fit`].
 #[derive(Clone, Copy, Debug, PartialEq, Eq)]
@@ -112,10 +112,10 @@ pub fn judge(row: &[u32]) -> Option<Sizes> {
 // Below, numbers joined by `&` are compared without a branch for each, and `&&`
 // spares the look at a command where they do not fit.
 
-/// Whether the ten cells of a server record are in range.
+/// Whether the eleven cells of a server record are in range.
 #[inline]
 fn record_in_range(cells: &[u32; RECORD], drive_marks: u32, read_marks: u32) -> bool {
-    let &[phase, mbal, bal, inp, offer, top, seenbal, seeninp, written, read] = cells;
+    let &[phase, mbal, bal, inp, offer, top, seenbal, seeninp, written, read, agreed] = cells;
     (phase <= 3)
         & is_ballot_or_none(mbal)
         & is_ballot_or_none(bal)
@@ -126,10 +126,13 @@ fn record_in_range(cells: &[u32; RECORD], drive_marks: u32, read_marks: u32) -> 
         && is_command_or_none(inp)
         && is_command_or_none(offer)
         && is_command_or_none(seeninp)
+        && is_command_or_none(agreed)
 }
 
-/// Whether mbal, bal and inp are in range.
+/// Whether mbal, bal, inp and done are in range. Most blocks hold no command, or the
+/// same one twice, and then one look is spared.
 #[inline]
-fn block_in_range(&[mbal, bal, inp]: &[u32; BLOCK]) -> bool {
-    is_ballot_or_none(mbal) & is_ballot_or_none(bal) && is_command_or_none(inp)
+fn block_in_range(&[mbal, bal, inp, done]: &[u32; BLOCK]) -> bool {
+    is_ballot_or_none(mbal) & is_ballot_or_none(bal)
+        && (inp | done == 0 || is_command_or_none(inp) && (done == inp || is_command_or_none(done)))
 }

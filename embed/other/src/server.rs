@@ -11,6 +11,8 @@ pub struct Block {
     pub bal: u32,
     /// The command tried in `bal`.
     pub inp: u32,
+    /// The command that the server knows to be settled, 0 if none.
+    pub done: u32,
 }
 
 impl Block {
@@ -18,13 +20,13 @@ impl Block {
     #[inline]
     pub fn load(room: &[u32], at: usize) -> Block {
         let cells = &room[at..at + BLOCK];
-        Block { mbal: cells[0], bal: cells[1], inp: cells[2] }
+        Block { mbal: cells[0], bal: cells[1], inp: cells[2], done: cells[3] }
     }
 
     /// Puts the block at cell `at`.
     #[inline]
     pub(crate) fn store(self, room: &mut [u32], at: usize) {
-        room[at..at + BLOCK].copy_from_slice(&[self.mbal, self.bal, self.inp]);
+        room[at..at + BLOCK].copy_from_slice(&[self.mbal, self.bal, self.inp, self.done]);
     }
 }
 
@@ -33,8 +35,12 @@ impl Block {
 pub struct Server {
     /// 0 to 3.
     pub phase: u32,
-    /// The own mbal, bal and inp.
-    pub own: Block,
+    /// The own ballot.
+    pub mbal: u32,
+    /// The last own ballot in which phase 2 began.
+    pub bal: u32,
+    /// The command tried in `bal`.
+    pub inp: u32,
     /// The command offered, 0 if none.
     pub offer: u32,
     /// The largest mbal recalled in phase 0.
@@ -47,6 +53,8 @@ pub struct Server {
     pub written: u32,
     /// Bit 4d + q: server q's block on drive d read in this phase.
     pub read: u32,
+    /// The command that the server has put out or learned, 0 if none.
+    pub agreed: u32,
 }
 
 impl Server {
@@ -56,13 +64,16 @@ impl Server {
         let cells = &room[at..at + RECORD];
         Server {
             phase: cells[0],
-            own: Block { mbal: cells[1], bal: cells[2], inp: cells[3] },
+            mbal: cells[1],
+            bal: cells[2],
+            inp: cells[3],
             offer: cells[4],
             top: cells[5],
             seenbal: cells[6],
             seeninp: cells[7],
             written: cells[8],
             read: cells[9],
+            agreed: cells[10],
         }
     }
 
@@ -71,15 +82,16 @@ impl Server {
     pub(crate) fn store(self, room: &mut [u32], at: usize) {
         room[at..at + RECORD].copy_from_slice(&[
             self.phase,
-            self.own.mbal,
-            self.own.bal,
-            self.own.inp,
+            self.mbal,
+            self.bal,
+            self.inp,
             self.offer,
             self.top,
             self.seenbal,
             self.seeninp,
             self.written,
             self.read,
+            self.agreed,
         ]);
     }
 
@@ -96,15 +108,19 @@ impl Server {
 
     /// The same server in `phase`, cleared.
     pub(crate) fn enter(self, phase: u32) -> Server {
-        Server {
-            phase,
-            top: 0,
-            seenbal: self.own.bal,
-            seeninp: self.own.inp,
-            written: 0,
-            read: 0,
-            ..self
-        }
+        Server { phase, top: 0, seenbal: self.bal, seeninp: self.inp, written: 0, read: 0, ..self }
+    }
+
+    /// The same server in phase 3, with `command` put out.
+    pub(crate) fn settled(self, command: u32) -> Server {
+        Server { agreed: command, ..self.enter(3) }
+    }
+
+    /// The block that a Write stores: the own one, which tells what is settled in
+    /// phase 3 alone.
+    pub(crate) fn block(&self) -> Block {
+        let done = if self.phase == 3 { self.agreed } else { 0 };
+        Block { mbal: self.mbal, bal: self.bal, inp: self.inp, done }
     }
 
     /// Takes the bal and inp of a block that was met, if the bal is larger.
@@ -117,7 +133,7 @@ impl Server {
 
     /// The command that the server has put out in the slot.
     pub fn output(&self) -> Option<u32> {
-        (self.phase == 3 && self.own.inp != 0).then_some(self.own.inp)
+        (self.phase == 3 && self.agreed != 0).then_some(self.agreed)
     }
 
     /// The marks of the drives where server `own` recalled its own block.

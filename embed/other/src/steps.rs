@@ -31,7 +31,7 @@ pub enum Answer {
     Outbid(u32),
     /// A Finish in phase 1 took this command.
     Chosen(u32),
-    /// A Finish in phase 2 put out this command.
+    /// A Finish in phase 2 put out this command, or a Read learned it.
     Committed(u32),
     /// Nothing changed, for the reason with this number.
     Refused(u32),
@@ -120,7 +120,7 @@ impl View<'_> {
         let recalled = own.recalled(place.server, self.sizes.drives);
         check(is_majority(recalled, self.sizes.drives), refusal::NO_MAJORITY)?;
         check(ballot > own.top, refusal::NOT_ABOVE)?;
-        own.own = Block { mbal: ballot, bal: own.seenbal, inp: own.seeninp };
+        (own.mbal, own.bal, own.inp) = (ballot, own.seenbal, own.seeninp);
         self.store(place, own.enter(1));
         Ok(Answer::Done)
     }
@@ -130,8 +130,8 @@ impl View<'_> {
         self.check_ballot(place, ballot)?;
         let mut own = self.load(place);
         check_running(&own)?;
-        check(ballot > own.own.mbal, refusal::NOT_ABOVE)?;
-        own.own.mbal = ballot;
+        check(ballot > own.mbal, refusal::NOT_ABOVE)?;
+        own.mbal = ballot;
         self.store(place, own.enter(1));
         Ok(Answer::Done)
     }
@@ -140,9 +140,9 @@ impl View<'_> {
         let place = self.place(server, slot)?;
         let drive = self.drive(drive)?;
         let mut own = self.load(place);
-        check_running(&own)?;
+        check(matches!(own.phase, 1..=3), refusal::PHASE)?;
         self.check_on(drive)?;
-        own.own.store(self.room, self.sizes.block_at(place.slot, drive, place.server));
+        own.block().store(self.room, self.sizes.block_at(place.slot, drive, place.server));
         own.written |= 1 << drive;
         self.store(place, own);
         Ok(Answer::Done)
@@ -158,7 +158,11 @@ impl View<'_> {
         self.check_on(drive)?;
         check(own.written >> drive & 1 == 1, refusal::NOT_WRITTEN)?;
         let found = self.block(place.slot, drive, other);
-        if found.mbal >= own.own.mbal {
+        if found.done != 0 {
+            self.store(place, own.settled(found.done));
+            return Ok(Answer::Committed(found.done));
+        }
+        if found.mbal >= own.mbal {
             return self.outbid(place, own, found.mbal);
         }
         own.read |= 1 << (4 * drive + other);
@@ -170,7 +174,7 @@ impl View<'_> {
     /// The rest of a Read that found a ballot not below the own one.
     fn outbid(&mut self, place: Place, mut own: Server, found: u32) -> Outcome {
         let servers = self.sizes.servers as u32;
-        own.own.mbal =
+        own.mbal =
             least_own_above(found, place.server as u32, servers).ok_or(refusal::NO_BALLOT_LEFT)?;
         self.store(place, own.enter(1));
         Ok(Answer::Outbid(found))
@@ -184,13 +188,13 @@ impl View<'_> {
         let completed = own.completed(place.server, servers, drives);
         check(is_majority(completed, drives), refusal::NO_MAJORITY)?;
         if own.phase == 2 {
-            self.store(place, own.enter(3));
-            return Ok(Answer::Committed(own.own.inp));
+            self.store(place, own.settled(own.inp));
+            return Ok(Answer::Committed(own.inp));
         }
         let command = if own.seeninp != 0 { own.seeninp } else { own.offer };
         check(command != 0, refusal::NOTHING_OFFERED)?;
-        own.own.bal = own.own.mbal;
-        own.own.inp = command;
+        own.bal = own.mbal;
+        own.inp = command;
         self.store(place, own.enter(2));
         Ok(Answer::Chosen(command))
     }

@@ -26,7 +26,7 @@ fn opened() -> Vec<u32> {
 
 /// The first cell of server 0's record in a slot.
 fn server_0(slot: usize) -> usize {
-    4 + slot * 2 * (10 + 3)
+    4 + slot * 2 * (11 + 4)
 }
 
 /// A Put of server 0 that is refused with `number` and changes nothing.
@@ -160,6 +160,28 @@ fn a_settled_slot_is_free_again_after_a_failure() {
     assert_eq!(put(&mut room, 0, 0, OTHER_COIN), Ok(()));
     // What was settled stays so, whatever is put there later.
     assert_eq!(settle(&mut room, 0, 3), COIN);
+}
+
+#[test]
+fn a_slot_that_was_learned_is_not_free() {
+    let mut room = opened();
+    // Server 1's block on the drive, behind two records and a block, tells it.
+    room[server_0(0) + 2 * 11 + 4 + 3] = COIN;
+    let (server, slot, drive) = (0, 0, 0);
+    for next in [
+        Step::Recall { server, slot, drive },
+        Step::Rejoin { server, slot, number: 1 },
+        Step::Write { server, slot, drive },
+    ] {
+        assert_eq!(step(&mut room, next), Answer::Done);
+    }
+    assert_eq!(ask(&room, 0), Ok(0));
+    let read = Step::Read { server, slot, drive, other: 1 };
+    assert_eq!(step(&mut room, read), Answer::Committed(COIN));
+    assert_eq!(ask(&room, 0), Ok(1));
+    refuse(&mut room, 0, OTHER_COIN, 16);
+    assert_eq!(step(&mut room, Step::Fail { server }), Answer::Done);
+    assert_eq!(ask(&room, 0), Ok(0));
 }
 
 #[test]

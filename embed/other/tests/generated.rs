@@ -1,7 +1,7 @@
-//! The generated inputs: the same from the same seed, every answer occurs, and
-//! half of the drives often decides.
+//! The generated inputs: the same from the same seed, every answer occurs, half
+//! of the drives often decides, and what is settled is often told and learned.
 
-use other::generator::{make_input, Halves, Tally};
+use other::generator::{make_input, replay, Halves, Learning, Tally};
 use other::rehearse;
 
 #[test]
@@ -27,10 +27,22 @@ fn a_set_has_every_answer() {
 fn half_of_the_drives_often_decides() {
     let mut halves = Halves::default();
     for index in 0..400 {
-        halves.count(&make_input(1, index, 200));
+        replay(&make_input(1, index, 200), |taken| halves.count(&taken));
     }
     println!("{}", halves.report());
     assert!(halves.least() >= 30);
+}
+
+#[test]
+fn settled_commands_are_often_told_and_learned() {
+    let mut learning = Learning::default();
+    for index in 0..400 {
+        replay(&make_input(1, index, 200), |taken| learning.count(&taken));
+    }
+    println!("{}", learning.report());
+    assert!(learning.told > 2_000 && learning.learned > 400);
+    assert!(learning.untold > 400 && learning.recalled > 400);
+    assert!(learning.not_outbid > 100 && learning.not_refused > 4);
 }
 
 #[test]

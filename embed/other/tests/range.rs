@@ -11,14 +11,14 @@ fn legal(cell: usize, value: u32, servers: usize, drives: usize) -> bool {
     if cell == 3 {
         return value < 1 << drives;
     }
-    let within = (cell - 4) % (10 * servers + 3 * drives * servers);
-    if within >= 10 * servers {
-        return if (within - 10 * servers) % 3 == 2 { command } else { ballot };
+    let within = (cell - 4) % (11 * servers + 4 * drives * servers);
+    if within >= 11 * servers {
+        return if (within - 11 * servers) % 4 >= 2 { command } else { ballot };
     }
-    match within % 10 {
+    match within % 11 {
         0 => value <= 3,
         1 | 2 | 5 | 6 => ballot,
-        3 | 4 | 7 => command,
+        3 | 4 | 7 | 10 => command,
         8 => value < 1 << drives,
         _ => (0..32).all(|bit| value >> bit & 1 == 0 || bit / 4 < drives && bit % 4 < servers),
     }
@@ -73,7 +73,7 @@ fn refuses(row: &mut [u32]) {
 
 #[test]
 fn rows_of_another_length_are_refused() {
-    let longest = vec![0; 2_100];
+    let longest = vec![0; 2_600];
     for (servers, drives, slots) in [(1, 1, 1), (4, 7, 16), (0, 1, 1), (9, 9, 9)] {
         let exact = room_length(servers, drives, slots) as usize;
         let mut row = longest.clone();
@@ -91,17 +91,26 @@ fn rows_of_another_length_are_refused() {
 
 #[test]
 fn rooms_that_no_run_reaches_keep_the_rules() {
-    // One server, one drive, one slot: the record at cell 4, the block at 14.
-    let mut room = vec![0; 17];
+    // One server, one drive, one slot: the record at cell 4, the block at 15.
+    let mut room = vec![0; 19];
     assert_eq!(other::open(&mut room, 1, 1, 1), Ok(()));
-    // Phase 3 without a command is no output.
+    // Phase 3 without an agreed command is no output, whatever inp is.
     room[4] = 3;
+    room[7] = 65_537;
     assert_eq!(catalogue(&room, 0, &mut [0; 64]), Ok((0, 0)));
-    // Finish in phase 2 without a command commits 0.
+    // An agreed command is none in another phase.
+    room[14] = 65_537;
+    for (phase, taken) in [(0, 0), (1, 0), (2, 0), (3, 1)] {
+        room[4] = phase;
+        assert_eq!(catalogue(&room, 0, &mut [0; 64]), Ok((taken, 0)));
+    }
+    // Finish in phase 2 without a command commits 0, and an agreed one is gone.
     room[4] = 2;
+    room[7] = 0;
     room[12] = 1;
     assert_eq!(step(&mut room, Step::Finish { server: 0, slot: 0 }), Answer::Committed(0));
-    assert_eq!(room[4], 3);
+    assert_eq!((room[4], room[14]), (3, 0));
+    assert_eq!(catalogue(&room, 0, &mut [0; 64]), Ok((0, 0)));
     // Finish in phase 1 takes the offer whatever seenbal is.
     room[4] = 1;
     room[8] = 65_537;
@@ -112,7 +121,7 @@ fn rooms_that_no_run_reaches_keep_the_rules() {
     room[4] = 0;
     room[10] = 4;
     room[11] = 65_537;
-    room[15] = 5;
+    room[16] = 5;
     assert_eq!(step(&mut room, Step::Recall { server: 0, slot: 0, drive: 0 }), Answer::Done);
     assert_eq!(room[10..12], [5, 0]);
 }

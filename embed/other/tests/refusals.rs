@@ -10,11 +10,15 @@ const OFFER: usize = 4;
 const TOP: usize = 5;
 const WRITTEN: usize = 8;
 const READ: usize = 9;
+const AGREED: usize = 10;
+
+/// The cells of a block.
+const DONE: usize = 3;
 
 /// The first cells of server 0's record and of server 1's block on drive 0, in
 /// a room of 2 servers, 3 drives and 2 slots, slot 0.
 const SERVER_0: usize = 4;
-const BLOCK_1: usize = 4 + 2 * 10 + 3;
+const BLOCK_1: usize = 4 + 2 * 11 + 4;
 
 fn opened() -> Vec<u32> {
     let mut room = vec![0; room_length(2, 3, 2) as usize];
@@ -72,7 +76,7 @@ fn recall_and_write_check_the_phase_first() {
     for phase in 1..=3 {
         set(&mut room, PHASE, phase);
         refuse(&mut room, recall, 7);
-        refuse(&mut room, write, if phase == 3 { 7 } else { 8 });
+        refuse(&mut room, write, 8);
     }
     set(&mut room, PHASE, 0);
     refuse(&mut room, write, 7);
@@ -103,7 +107,7 @@ fn rejoin_checks_the_run_after_the_ballot() {
     // A drive that went off after it was recalled still counts.
     room[3] = 7;
     assert_eq!(step(&mut room, rejoin(11)), Answer::Done);
-    assert_eq!(room[SERVER_0..SERVER_0 + 10], [1, 11, 0, 0, 0, 0, 0, 0, 0, 0]);
+    assert_eq!(room[SERVER_0..SERVER_0 + 11], [1, 11, 0, 0, 0, 0, 0, 0, 0, 0, 0]);
 }
 
 #[test]
@@ -123,28 +127,47 @@ fn bid_checks_the_run_after_the_ballot() {
     refuse(&mut room, bid(999_999), 11);
 }
 
+/// The block's done is looked at after the drive and before the ballots: what is
+/// settled is learned also where no own ballot is above the one found.
 #[test]
 fn read_checks_the_drive_before_the_block() {
-    let mut room = opened();
     let read = Step::Read { server: 0, slot: 0, drive: 0, other: 1 };
-    room[3] = 1;
-    room[BLOCK_1] = 1_000_000;
-    for phase in [0, 3] {
-        set(&mut room, PHASE, phase);
-        refuse(&mut room, read, 7);
+    for done in [0, 65_537] {
+        let mut room = opened();
+        room[3] = 1;
+        room[BLOCK_1] = 1_000_000;
+        room[BLOCK_1 + DONE] = done;
+        for phase in [0, 3] {
+            set(&mut room, PHASE, phase);
+            refuse(&mut room, read, 7);
+        }
+        set(&mut room, PHASE, 1);
+        set(&mut room, MBAL, 999_999);
+        refuse(&mut room, read, 8);
+        room[3] = 0;
+        refuse(&mut room, read, 9);
+        set(&mut room, WRITTEN, 6);
+        refuse(&mut room, read, 9);
+        set(&mut room, WRITTEN, 7);
+        if done == 0 {
+            refuse(&mut room, read, 13);
+        } else {
+            assert_eq!(step(&mut room, read), Answer::Committed(done));
+            let record = [3, 999_999, 0, 0, 0, 0, 0, 0, 0, 0, done];
+            assert_eq!(room[SERVER_0..SERVER_0 + 11], record);
+        }
     }
+}
+
+/// No run reaches it.
+#[test]
+fn an_equal_ballot_is_outbid() {
+    let mut room = opened();
     set(&mut room, PHASE, 1);
-    set(&mut room, MBAL, 999_999);
-    refuse(&mut room, read, 8);
-    room[3] = 0;
-    refuse(&mut room, read, 9);
-    set(&mut room, WRITTEN, 6);
-    refuse(&mut room, read, 9);
-    set(&mut room, WRITTEN, 7);
-    refuse(&mut room, read, 13);
-    // An equal mbal is outbid too. No run reaches it.
     set(&mut room, MBAL, 6);
+    set(&mut room, WRITTEN, 1);
     room[BLOCK_1] = 6;
+    let read = Step::Read { server: 0, slot: 0, drive: 0, other: 1 };
     assert_eq!(step(&mut room, read), Answer::Outbid(6));
     assert_eq!(room[SERVER_0 + MBAL], 7);
 }
@@ -172,20 +195,24 @@ fn finish_checks_the_majority_before_the_command() {
     set(&mut room, WRITTEN, 5);
     set(&mut room, READ, 0x202);
     assert_eq!(step(&mut room, finish), Answer::Committed(65_537));
-    let record = [3, 3, 3, 65_537, 65_537, 0, 3, 65_537, 0, 0];
-    assert_eq!(room[SERVER_0..SERVER_0 + 10], record);
+    let record = [3, 3, 3, 65_537, 65_537, 0, 3, 65_537, 0, 0, 65_537];
+    assert_eq!(room[SERVER_0..SERVER_0 + 11], record);
 }
 
 #[test]
 fn fail_empties_one_server_in_every_slot() {
     let mut room = opened();
-    let slot_length = 2 * (10 + 3 * 3);
-    for cell in [SERVER_0, SERVER_0 + 10, SERVER_0 + slot_length, BLOCK_1, BLOCK_1 + slot_length] {
+    let slot_length = 2 * (11 + 4 * 3);
+    for cell in [SERVER_0, SERVER_0 + 11, SERVER_0 + slot_length, BLOCK_1, BLOCK_1 + slot_length] {
         room[cell..cell + 2].copy_from_slice(&[3, 7]);
     }
+    for record in [SERVER_0, SERVER_0 + 11, SERVER_0 + slot_length] {
+        room[record + AGREED] = 65_537;
+    }
+    room[BLOCK_1 - 4 + DONE] = 65_537;
     let mut expected = room.clone();
     for record in [SERVER_0, SERVER_0 + slot_length] {
-        expected[record..record + 10].fill(0);
+        expected[record..record + 11].fill(0);
     }
     assert_eq!(step(&mut room, Step::Fail { server: 0 }), Answer::Done);
     assert_eq!(room, expected);

@@ -2,7 +2,7 @@
 
 use other::{
     catalogue, is_command, is_majority, least_own_above, open, owner, room_length, step, Answer,
-    Block, Server, Sizes, Step, STRUCK,
+    Server, Sizes, Step, STRUCK,
 };
 
 /// A new room.
@@ -31,6 +31,7 @@ fn server(room: &[u32], slot: usize, server: usize) -> Server {
     Server::load(room, sizes.server_at(slot, server))
 }
 
+/// Puts mbal, bal and inp into a block.
 fn put_block(room: &mut [u32], drive: usize, server: usize, block: [u32; 3]) {
     let at = other::judge(room).expect("a room in range").block_at(0, drive, server);
     room[at..at + 3].copy_from_slice(&block);
@@ -39,23 +40,23 @@ fn put_block(room: &mut [u32], drive: usize, server: usize, block: [u32; 3]) {
 /// Puts commands into the slots of a room of one server and one drive, as its outputs.
 fn put_outputs(room: &mut [u32], commands: &[u32]) {
     for (slot, &command) in commands.iter().enumerate() {
-        let at = 4 + 13 * slot;
+        let at = 4 + 15 * slot;
         room[at] = 3;
-        room[at + 3] = command;
+        room[at + 10] = command;
     }
 }
 
 #[test]
 fn the_room_has_its_length() {
-    assert_eq!(room_length(1, 1, 1), 17);
-    assert_eq!(room_length(4, 7, 16), 1_988);
+    assert_eq!(room_length(1, 1, 1), 19);
+    assert_eq!(room_length(4, 7, 16), 2_500);
     let sizes = Sizes::fit(2, 3, 2).expect("sizes that fit");
-    assert_eq!(sizes.server_at(0, 1), 14);
-    assert_eq!(sizes.block_at(0, 0, 0), 24);
-    assert_eq!(sizes.block_at(0, 1, 1), 33);
-    assert_eq!(sizes.server_at(1, 0), 42);
+    assert_eq!(sizes.server_at(0, 1), 15);
+    assert_eq!(sizes.block_at(0, 0, 0), 26);
+    assert_eq!(sizes.block_at(0, 1, 1), 38);
+    assert_eq!(sizes.server_at(1, 0), 50);
     let mut room = opened(2, 3, 2);
-    assert_eq!(room.len(), 4 + 2 * (10 * 2 + 3 * 3 * 2));
+    assert_eq!(room.len(), 4 + 2 * (11 * 2 + 4 * 3 * 2));
     assert_eq!(room[..4], [2, 3, 2, 0]);
     assert!(room[4..].iter().all(|&cell| cell == 0));
     room[3] = 8;
@@ -66,14 +67,14 @@ fn the_room_has_its_length() {
 fn open_refuses_sizes_before_length() {
     let bad = [(0, 1, 1), (5, 1, 1), (1, 0, 1), (1, 8, 1), (1, 1, 0), (1, 1, 17)];
     for (servers, drives, slots) in bad.into_iter().chain([(u32::MAX, u32::MAX, u32::MAX)]) {
-        for length in [0, 3, 17, 1_988] {
+        for length in [0, 3, 19, 2_500] {
             let mut row = vec![9; length];
             assert_eq!(open(&mut row, servers, drives, slots), Err(1));
             assert!(row.iter().all(|&cell| cell == 9));
         }
         assert_eq!(room_length(servers, drives, slots), 0);
     }
-    for length in [0, 3, 16, 18, 1_988] {
+    for length in [0, 3, 17, 18, 20, 2_500] {
         let mut row = vec![9; length];
         assert_eq!(open(&mut row, 1, 1, 1), Err(2));
         assert!(row.iter().all(|&cell| cell == 9));
@@ -173,7 +174,7 @@ fn a_server_outbid_takes_its_next_ballot() {
     take(&mut room, &[Step::Write { server: 1, slot: 0, drive: 0 }]);
     assert_eq!(step(&mut room, read), Answer::Outbid(7));
     let own = server(&room, 0, 1);
-    assert_eq!((own.phase, own.own.mbal, own.written, own.read), (1, 10, 0, 0));
+    assert_eq!((own.phase, own.mbal, own.written, own.read), (1, 10, 0, 0));
 }
 
 #[test]
@@ -192,7 +193,7 @@ fn no_ballot_is_left_at_the_limit() {
     put_block(&mut room, 0, 1, [999_998, 0, 0]);
     let read = Step::Read { server: 0, slot: 0, drive: 0, other: 1 };
     assert_eq!(step(&mut room, read), Answer::Outbid(999_998));
-    assert_eq!(server(&room, 0, 0).own.mbal, 999_999);
+    assert_eq!(server(&room, 0, 0).mbal, 999_999);
 }
 
 #[test]
@@ -207,7 +208,7 @@ fn rejoin_keeps_the_largest_bal() {
         refuse(&mut room, Step::Rejoin { server: 0, slot: 0, number: 1 }, 11);
         take(&mut room, &[Step::Rejoin { server: 0, slot: 0, number: 3 }]);
         let own = server(&room, 0, 0);
-        assert_eq!(own.own, Block { mbal: 3, bal: 1, inp: 66_825 });
+        assert_eq!((own.mbal, own.bal, own.inp), (3, 1, 66_825));
         assert_eq!((own.top, own.seenbal, own.seeninp), (0, 1, 66_825));
     }
 }
@@ -232,7 +233,8 @@ fn finish_chooses_by_bal_and_clears_the_marks() {
     refuse(&mut room, finish, 10);
     take(&mut room, &[Step::Read { server: server_0, slot, drive: 0, other: 2 }]);
     assert_eq!(step(&mut room, finish), Answer::Chosen(66_826));
-    assert_eq!(server(&room, 0, 0).own, Block { mbal: 7, bal: 7, inp: 66_826 });
+    let own = server(&room, 0, 0);
+    assert_eq!((own.mbal, own.bal, own.inp), (7, 7, 66_826));
     refuse(&mut room, finish, 10);
     // The own block is among those seen after a new ballot.
     take(&mut room, &[Step::Bid { server: server_0, slot, number: 10 }]);
@@ -255,7 +257,7 @@ fn catalogue_skips_what_does_not_apply() {
     assert_eq!(catalogue(&room[1..], 1, &mut out[1..]), Err(2));
     assert_eq!(out[0], STRUCK);
     // A slot in phase 2 ends the outputs.
-    room[4 + 13 * 3] = 2;
+    room[4 + 15 * 3] = 2;
     assert_eq!(catalogue(&room, 0, &mut out), Ok((3, 2)));
     assert_eq!(out[0], 9);
 }

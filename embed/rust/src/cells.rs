@@ -7,7 +7,7 @@ use crate::Room;
 /// or the place is beyond the room.
 ///
 /// ```
-/// assert_eq!(register::server_at(2, 3, 4, 1, 0), Some(14));
+/// assert_eq!(register::server_at(2, 3, 4, 1, 0), Some(15));
 /// assert_eq!(register::server_at(2, 3, 4, 2, 0), None);
 /// ```
 #[must_use]
@@ -19,7 +19,7 @@ pub fn server_at(servers: u32, drives: u32, slots: u32, server: u32, slot: u32) 
 /// do not fit or the place is beyond the room.
 ///
 /// ```
-/// assert_eq!(register::block_at(2, 3, 4, 1, 0, 2), Some(39));
+/// assert_eq!(register::block_at(2, 3, 4, 1, 0, 2), Some(46));
 /// assert_eq!(register::block_at(2, 3, 4, 1, 0, 3), None);
 /// ```
 #[must_use]
@@ -45,8 +45,8 @@ fn place(at: u32) -> Option<usize> {
 pub struct Server {
     /// 0 after a failure, 1 and 2 on the way, 3 settled.
     pub phase: u32,
-    /// The own block.
-    pub own: Block,
+    /// The own ballots and command, which a Write puts into the server's block.
+    pub own: Own,
     /// The command offered, 0 if none.
     pub offer: u32,
     /// The largest ballot recalled in phase 0.
@@ -59,6 +59,21 @@ pub struct Server {
     pub written: u32,
     /// Bit 4d + q: server q's block on drive d was read in this phase.
     pub read: u32,
+    /// The command that was settled, 0 if the server has settled and learned none.
+    /// In phase 3 it is what the catalogue takes from the slot.
+    pub agreed: u32,
+}
+
+/// The ballots and the command of a server in a slot.
+#[derive(Clone, Copy, Debug, PartialEq, Eq, Hash)]
+#[non_exhaustive]
+pub struct Own {
+    /// The current ballot.
+    pub mbal: u32,
+    /// The last ballot in which phase 2 began.
+    pub bal: u32,
+    /// The command tried in it.
+    pub inp: u32,
 }
 
 /// What a server has on a drive in a slot: the cells of a block.
@@ -71,6 +86,9 @@ pub struct Block {
     pub bal: u32,
     /// The command tried in it.
     pub inp: u32,
+    /// The command that was settled, 0 if the block does not tell it. Whoever reads
+    /// it here learns it.
+    pub done: u32,
 }
 
 impl<R: AsRef<[u32]>> Room<R> {
@@ -90,10 +108,10 @@ impl<R: AsRef<[u32]>> Room<R> {
     pub fn server(&self, server: u32, slot: u32) -> Option<Server> {
         let &[servers, drives, slots, ..] = self.cells() else { return None };
         let at = server_at(servers, drives, slots, server, slot)?;
-        let &[phase, mbal, bal, inp, offer, top, seenbal, seeninp, written, read] =
+        let &[phase, mbal, bal, inp, offer, top, seenbal, seeninp, written, read, agreed] =
             self.cells().get(at..)?.first_chunk()?;
-        let own = Block { mbal, bal, inp };
-        Some(Server { phase, own, offer, top, seenbal, seeninp, written, read })
+        let own = Own { mbal, bal, inp };
+        Some(Server { phase, own, offer, top, seenbal, seeninp, written, read, agreed })
     }
 
     /// What a server has on a drive in a slot, as the cells have it; none where
@@ -111,7 +129,7 @@ impl<R: AsRef<[u32]>> Room<R> {
     pub fn block(&self, server: u32, slot: u32, drive: u32) -> Option<Block> {
         let &[servers, drives, slots, ..] = self.cells() else { return None };
         let at = block_at(servers, drives, slots, server, slot, drive)?;
-        let &[mbal, bal, inp] = self.cells().get(at..)?.first_chunk()?;
-        Some(Block { mbal, bal, inp })
+        let &[mbal, bal, inp, done] = self.cells().get(at..)?.first_chunk()?;
+        Some(Block { mbal, bal, inp, done })
     }
 }

@@ -28,6 +28,35 @@
 //! # Ok(())
 //! # }
 //! ```
+//!
+//! A server that has settled a slot can tell it: it writes its block once more.
+//! Another that comes late learns the command where it reads that block, and need not
+//! finish a phase.
+//!
+//! ```
+//! use register::{Answer, Room, Step};
+//!
+//! # fn main() -> Result<(), register::Error> {
+//! let mut room = Room::open(2, 1, 1)?;
+//! room.put(0, 0, 66_825)?;
+//! room.step(Step::Recall { server: 0, slot: 0, drive: 0 })?;
+//! room.step(Step::Rejoin { server: 0, slot: 0, ballot: 1 })?;
+//! for answer in [Answer::Chosen(66_825), Answer::Committed(66_825)] {
+//!     room.step(Step::Write { server: 0, slot: 0, drive: 0 })?;
+//!     room.step(Step::Read { server: 0, slot: 0, drive: 0, other: 1 })?;
+//!     assert_eq!(room.step(Step::Finish { server: 0, slot: 0 })?, answer);
+//! }
+//! room.step(Step::Write { server: 0, slot: 0, drive: 0 })?;
+//!
+//! room.step(Step::Recall { server: 1, slot: 0, drive: 0 })?;
+//! room.step(Step::Rejoin { server: 1, slot: 0, ballot: 2 })?;
+//! room.step(Step::Write { server: 1, slot: 0, drive: 0 })?;
+//! let read = Step::Read { server: 1, slot: 0, drive: 0, other: 0 };
+//! assert_eq!(room.step(read)?, Answer::Committed(66_825));
+//! assert_eq!(room.catalogue(1)?, room.catalogue(0)?);
+//! # Ok(())
+//! # }
+//! ```
 
 mod catalogue;
 mod cells;
@@ -39,7 +68,7 @@ mod room;
 mod step;
 
 pub use catalogue::{Catalogue, Entry, PIECES, STRUCK};
-pub use cells::{block_at, server_at, Block, Server};
+pub use cells::{block_at, server_at, Block, Own, Server};
 pub use command::{Command, Kind};
 pub use error::Error;
 pub use record::{Record, LONGEST_RECORD};

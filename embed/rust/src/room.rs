@@ -8,7 +8,7 @@ use crate::{Answer, Catalogue, Error, Record, Step, PIECES};
 /// The number of cells of a room, none where the sizes do not fit.
 ///
 /// ```
-/// assert_eq!(register::room_length(4, 7, 16), Some(1988));
+/// assert_eq!(register::room_length(4, 7, 16), Some(2500));
 /// assert_eq!(register::room_length(5, 7, 16), None);
 /// ```
 #[must_use]
@@ -28,7 +28,7 @@ pub fn room_length(servers: u32, drives: u32, slots: u32) -> Option<usize> {
 /// ```
 /// use register::{Error, Room, Step};
 ///
-/// let mut cells = [0; 17];
+/// let mut cells = [0; 19];
 /// let mut room = Room::open_in(&mut cells[..], 1, 1, 1)?;
 /// room.step(Step::Offer { server: 0, slot: 0, command: 66_825 })?;
 /// assert_eq!(cells[8], 66_825);
@@ -48,10 +48,10 @@ pub struct Room<R = Vec<u32>> {
 /// ```
 /// use register::{Error, Room};
 ///
-/// let row = vec![7; 18];
+/// let row = vec![7; 20];
 /// let not_opened = Room::open_in(row, 1, 1, 1).unwrap_err();
 /// assert_eq!(not_opened.error, Error::Length);
-/// assert_eq!(not_opened.row, [7; 18]);
+/// assert_eq!(not_opened.row, [7; 20]);
 /// ```
 #[derive(Clone, Copy, Debug, PartialEq, Eq)]
 pub struct NotOpened<R> {
@@ -80,7 +80,7 @@ impl Room<Vec<u32>> {
     ///
     /// ```
     /// let room = register::Room::open(2, 3, 4)?;
-    /// assert_eq!(room.cells().len(), 156);
+    /// assert_eq!(room.cells().len(), 188);
     /// # Ok::<(), register::Error>(())
     /// ```
     ///

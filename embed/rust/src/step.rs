@@ -42,7 +42,8 @@ pub enum Step {
         /// A ballot b with (b - 1) mod N the server.
         ballot: u32,
     },
-    /// The server writes its block to the drive.
+    /// The server writes its block to the drive. Once it has settled the slot, the
+    /// block tells others what was settled.
     Write {
         /// The server.
         server: u8,
@@ -51,7 +52,8 @@ pub enum Step {
         /// The drive.
         drive: u8,
     },
-    /// The server reads another server's block on the drive.
+    /// The server reads another server's block on the drive. If the block tells what
+    /// was settled, the server has learned it, and the slot is settled for it too.
     Read {
         /// The server.
         server: u8,
@@ -141,7 +143,8 @@ pub enum Answer {
     Outbid(u32),
     /// A Finish in phase 1 chose this command.
     Chosen(u32),
-    /// A Finish in phase 2 settled the slot with this command.
+    /// The slot is settled for the server, with this command: it finished phase 2, or
+    /// a Read learned it.
     Committed(u32),
 }
 

@@ -62,8 +62,8 @@ fn each_is_met() {
     assert_eq!(full.put(0, 0, COIN), Ok(()));
     let met = [
         Room::open(1, 8, 1).expect_err("eight drives are too many"),
-        Room::open_in(vec![0; 18], 1, 1, 1).expect_err("a room of one has 17 cells").error,
-        refusal(Room::over(vec![9; 17]), Step::Fail { server }),
+        Room::open_in(vec![0; 20], 1, 1, 1).expect_err("a room of one has 19 cells").error,
+        refusal(Room::over(vec![9; 19]), Step::Fail { server }),
         refusal(bidding(1), Step::Read { server, slot, drive, other: server }),
         refusal(bidding(1), Step::Offer { server, slot, command: 81_725 }),
         refusal(bidding(1), Step::Bid { server, slot, ballot: 2 }),
@@ -99,7 +99,7 @@ fn each_has_a_text_of_its_own() {
 #[test]
 fn ask_and_put_in_order() {
     let far = [2, 3, 255, 256, 1 << 31, u32::MAX];
-    let mut row = Room::over(vec![9; 17]);
+    let mut row = Room::over(vec![9; 19]);
     let mut full = bidding(1);
     assert_eq!(full.put(0, 0, COIN), Ok(()));
     for server in far {

@@ -9,12 +9,13 @@ enum Cell {
     Phase,
     Ballot,
     Value,
+    Done,
     Drives,
     Reads,
 }
 
-/// The ten cells of a server record, and the three of a block.
-const RECORD: [Cell; 10] = [
+/// The eleven cells of a server record, and the four of a block.
+const RECORD: [Cell; 11] = [
     Cell::Phase,
     Cell::Ballot,
     Cell::Ballot,
@@ -25,8 +26,9 @@ const RECORD: [Cell; 10] = [
     Cell::Value,
     Cell::Drives,
     Cell::Reads,
+    Cell::Value,
 ];
-const BLOCK: [Cell; 3] = [Cell::Ballot, Cell::Ballot, Cell::Value];
+const BLOCK: [Cell; 4] = [Cell::Ballot, Cell::Ballot, Cell::Value, Cell::Done];
 
 /// A room with any cells that are in range, most of which no run reaches.
 pub fn in_range(chance: &mut Chance, sizes: Sizes) -> Vec<u32> {
@@ -97,6 +99,9 @@ fn cell(chance: &mut Chance, sizes: Sizes, kind: Cell) -> u32 {
         Cell::Phase => chance.below(4),
         Cell::Ballot => ballot(chance),
         Cell::Value => value(chance),
+        // More often 0, for a Read looks at the ballots only then.
+        Cell::Done if chance.one_in(2) => 0,
+        Cell::Done => value(chance),
         Cell::Drives => marks(chance, |bit| bit < sizes.drives),
         Cell::Reads => marks(chance, |bit| bit / 4 < sizes.drives && bit % 4 < sizes.servers),
     }

@@ -9,6 +9,10 @@ const COMMANDS: [u32; 6] = [66_825, 66_826, 132_359, 132_364, 197_888, 67_081];
 /// The slots of the room, which are more than the commands of a list.
 const SLOTS: usize = 6;
 
+/// What the server tried in every slot: piece 0 enters hoard 1. It learned another
+/// command, so this one is in no catalogue.
+const TRIED: u32 = 65_537;
+
 /// A room of one server and one drive with these outputs.
 fn room_with(commands: &[u32]) -> Vec<u32> {
     let sizes = (1, 1, SLOTS as u32);
@@ -17,7 +21,8 @@ fn room_with(commands: &[u32]) -> Vec<u32> {
         let at = register::server_at(sizes.0, sizes.1, sizes.2, 0, slot as u32);
         let at = at.expect("the room has the slot");
         room[at] = 3;
-        room[at + 3] = command;
+        room[at + 3] = TRIED;
+        room[at + 10] = command;
     }
     room
 }
@@ -34,6 +39,7 @@ fn every_short_list_of_commands() {
         let catalogue = Room::over(room).catalogue(0).expect("the room is in range");
         assert_eq!(counts, Ok((catalogue.taken, catalogue.skipped)), "{list:?}");
         assert_eq!(catalogue.taken as usize, list.len());
+        assert_eq!(catalogue.entry(0), Some(Entry::Absent));
         for (piece, &cell) in catalogue.cells.iter().enumerate() {
             let entry = match cell {
                 0 => Entry::Absent,

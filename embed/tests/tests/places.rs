@@ -81,16 +81,19 @@ fn what_stands_there() {
 fn server_of(server: register::Server) -> Server {
     Server {
         phase: server.phase,
-        own: block_of(server.own),
+        mbal: server.own.mbal,
+        bal: server.own.bal,
+        inp: server.own.inp,
         offer: server.offer,
         top: server.top,
         seenbal: server.seenbal,
         seeninp: server.seeninp,
         written: server.written,
         read: server.read,
+        agreed: server.agreed,
     }
 }
 
 fn block_of(block: register::Block) -> Block {
-    Block { mbal: block.mbal, bal: block.bal, inp: block.inp }
+    Block { mbal: block.mbal, bal: block.bal, inp: block.inp, done: block.done }
 }

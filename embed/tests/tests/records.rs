@@ -69,7 +69,7 @@ fn any_step_written() {
 #[test]
 fn records_on_a_room() {
     let mut chance = Chance::new(31);
-    let mut pair = Pair::over(vec![0; 156]);
+    let mut pair = Pair::over(vec![0; 188]);
     pair.open(2, 3, 4).expect("the sizes fit");
     let mut refused = [0; 16];
     for _ in 0..200_000 {

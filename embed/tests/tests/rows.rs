@@ -1,7 +1,7 @@
 //! Rows from anywhere: random cells, one cell spoiled, wrong lengths, and rooms in
 //! range that no run reaches.
 
-use other::generator::{any_step, Chance, Driver, Habits};
+use other::generator::{any_step, Chance, Driver, Habits, Learning, Taken};
 use other::{Answer, Sizes};
 use tests::hostile::{any_cells, any_number, in_range, EDGES};
 use tests::{every_size, numbers, Pair};
@@ -22,13 +22,17 @@ fn some_step(chance: &mut Chance, pair: &Pair, sizes: Sizes) -> other::Step {
 fn rooms_in_range_that_no_run_reaches() {
     let mut refused = [0; 16];
     let mut accepted = 0;
+    let mut learning = Learning::default();
     for (place, sizes) in every_size().enumerate() {
         let mut chance = Chance::of_run(11, place as u32);
-        for _ in 0..40 {
+        for _ in 0..120 {
             let mut pair = Pair::over(in_range(&mut chance, sizes));
             for _ in 0..10 {
                 let step = some_step(&mut chance, &pair, sizes);
-                match pair.step(step) {
+                let before = pair.cells().to_vec();
+                let answer = pair.step(step);
+                learning.count(&Taken { sizes, before: &before, step, answer });
+                match answer {
                     Answer::Refused(number) => refused[number as usize] += 1,
                     _ => accepted += 1,
                 }
@@ -38,9 +42,10 @@ fn rooms_in_range_that_no_run_reaches() {
             }
         }
     }
-    println!("{accepted} accepted, refused {refused:?}");
-    assert!(accepted > 50_000 && refused[3] == 0);
+    println!("{accepted} accepted, refused {refused:?}\n{}", learning.report());
+    assert!(accepted > 150_000 && refused[3] == 0);
     assert!((4..=13).all(|number| refused[number] > 0));
+    assert!(learning.learned > 500 && learning.least() > 50);
 }
 
 #[test]
@@ -117,11 +122,11 @@ fn restore(pair: &mut Pair, kept: &[u32]) {
 }
 
 #[test]
-fn every_length_from_0_to_2100() {
+fn every_length_from_0_to_2600() {
     let mut chance = Chance::new(19);
     let sizes: Vec<Sizes> = every_size().collect();
     let mut opened = 0;
-    for length in 0..=2100 {
+    for length in 0..=2600 {
         let mut pair = Pair::over((0..length).map(|_| any_number(&mut chance)).collect());
         for &sizes in &sizes {
             let (servers, drives, slots) = numbers(sizes);
@@ -153,7 +158,7 @@ fn wrong_length(chance: &mut Chance, length: usize) {
 }
 
 fn room_of_one() -> Pair {
-    let mut pair = Pair::over(vec![0; 17]);
+    let mut pair = Pair::over(vec![0; 19]);
     pair.open(1, 1, 1).expect("the sizes fit");
     pair
 }
@@ -166,7 +171,7 @@ fn sizes_that_do_not_fit() {
             for slots in numbers {
                 let length = other::room_length(servers, drives, slots) as usize;
                 assert_eq!(register::room_length(servers, drives, slots).unwrap_or(0), length);
-                for length in [0, 1, 4, 17, length, length + 1, 1988] {
+                for length in [0, 1, 4, 17, 19, length, length + 1, 1988, 2500] {
                     let mut pair = Pair::over(vec![7; length]);
                     let _ = pair.open(servers, drives, slots);
                     let mut row = vec![0; length.max(3)];

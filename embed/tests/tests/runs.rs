@@ -2,7 +2,7 @@
 
 use std::collections::BTreeMap;
 
-use other::generator::{Chance, Driver, Habits};
+use other::generator::{Chance, Driver, Habits, Learning, Taken};
 use other::{Answer, Sizes};
 use tests::{every_size, numbers, Pair};
 
@@ -16,13 +16,15 @@ type Answers = BTreeMap<(&'static str, u32), u64>;
 #[test]
 fn millions_of_steps_in_rooms_of_every_size() {
     let mut answers = Answers::new();
+    let mut learning = Learning::default();
     for (place, sizes) in every_size().enumerate() {
         for turn in 0..RUNS {
-            run(sizes, Chance::of_run(7, place as u32 * RUNS + turn), &mut answers);
+            let chance = Chance::of_run(7, place as u32 * RUNS + turn);
+            run(sizes, chance, &mut answers, &mut learning);
         }
     }
     let total: u64 = answers.values().sum();
-    println!("{total} steps: {answers:?}");
+    println!("{total} steps: {answers:?}\n{}", learning.report());
     assert!(total >= 4_000_000);
     // Every answer that a step in a room in range can have.
     let expected = ["done", "outbid", "chosen", "committed"].map(|word| (word, 0));
@@ -30,18 +32,28 @@ fn millions_of_steps_in_rooms_of_every_size() {
     for answer in expected.into_iter().chain(refusals) {
         assert!(answers.contains_key(&answer), "no step was answered with {answer:?}");
     }
+    // What is settled is often told, and learned whatever the ballots are.
+    assert!(learning.told > 100_000 && learning.learned > 40_000);
+    assert!(learning.not_outbid > 10_000 && learning.not_refused > 300);
+    assert!(learning.untold > 50_000 && learning.recalled > 50_000);
+    // And yet it is often settled anew.
+    let committed = answers[&("committed", 0)];
+    assert!(committed - learning.learned > 80_000 && answers[&("outbid", 0)] > 40_000);
 }
 
-fn run(sizes: Sizes, mut chance: Chance, answers: &mut Answers) {
+fn run(sizes: Sizes, mut chance: Chance, answers: &mut Answers, learning: &mut Learning) {
     let (servers, drives, slots) = numbers(sizes);
     let mut pair = Pair::over((0..sizes.length()).map(|_| chance.draw() as u32).collect());
     pair.open(servers, drives, slots).expect("the sizes fit");
     let habits = Habits::any(&mut chance);
     let mut driver = Driver::new(&mut chance, sizes, habits);
+    let mut before = pair.cells().to_vec();
     for step in 0..STEPS {
         let next = driver.next_step(&mut chance, pair.cells());
+        before.copy_from_slice(pair.cells());
         let answer = pair.step(next);
         driver.hear(answer);
+        learning.count(&Taken { sizes, before: &before, step: next, answer });
         *answers.entry(name(answer)).or_default() += 1;
         if step % 40 == 39 {
             catalogues(&pair, servers);

@@ -31,5 +31,6 @@ store-block-spec =
     (λ c. omega (arith, within c)) (λ c. omega (arith, within c))
     (λ c. omega (arith, within c)) (λ c. omega (arith, within c)) (λ c. simp length-set (omega (arith, within c)))
     (λ c. omega (arith, within c)) (λ c. omega (arith, within c)) (λ c. simp length-set (omega (arith, within c)))
+    (λ c. omega (arith, within c)) (λ c. omega (arith, within c)) (λ c. simp length-set (omega (arith, within c)))
     (λ c. simp length-set)
     returns)

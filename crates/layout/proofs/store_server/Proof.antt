@@ -38,5 +38,6 @@ store-server-spec =
     (λ c. omega (arith, within c)) (λ c. omega (arith, within c)) (λ c. simp length-set (omega (arith, within c)))
     (λ c. omega (arith, within c)) (λ c. omega (arith, within c)) (λ c. simp length-set (omega (arith, within c)))
     (λ c. omega (arith, within c)) (λ c. omega (arith, within c)) (λ c. simp length-set (omega (arith, within c)))
+    (λ c. omega (arith, within c)) (λ c. omega (arith, within c)) (λ c. simp length-set (omega (arith, within c)))
     (λ c. simp length-set)
     returns)

@@ -51,15 +51,18 @@ fitting c = c .before .before
 exact : (c : tie.Else3) → length (row (sized (fitting c))) ≡ roomLength (sizes (sized (fitting c)))
 exact c = omega (arith, c .if3 .left, c .before .room-length .ensures)
 
+abbrev masked : tie.After-only-legal → tie.After-masks-of
+masked c = c .before .before
+
 abbrev long : tie.After-only-legal → tie.Else3
-long c = c .before .before .before
+long c = masked c .before
 
 off
     : (c : tie.After-only-legal)
     → c .only-legal .result ≡ within (offOf (row (sized (fitting (long c))))) (legalDrives (sizes (sized (fitting (long c)))))
 off c =
     let marks = offOf (row (sized (fitting (long c)))) in
-    let masks = c .before .before .masks-of in
+    let masks = masked c .masks-of in
     let judged : c .only-legal .result ≡ within marks (masks .result .drives) = c .only-legal .ensures in
     judged ∙ ap (λ (k : Masks). within marks (k .drives)) (masks .ensures)
 
@@ -103,21 +106,27 @@ returns-4 c =
     let s = sized (fitting (long (c .before))) in
     sym (claimed s ∙ no-off (limits s) (sizes s) (row s) (sym (off (c .before)) ∙ not-true _ (c .if4 .taken)))
 
+-- all tests but that of the slots have passed
+abbrev passed : tie.After-tops → tie.Else4
+passed c = c .before .before .before
+
 slots-fit-requires : tie.Need-slots-fit-requires
 slots-fit-requires c κs =
-    let l = long (c .before .before .before .before) in
+    let legal = passed c .before in
+    let l = long legal in
     let fit = fit-of (sizes (sized (fitting l))) (fits (fitting l)) in
-    (record { fit = fit; exact = exact l }, c .before .before .before .before .before .before .masks-of .ensures)
+    (record { fit = fit; exact = exact l }, masked legal .masks-of .ensures)
 
 returns-5 : tie.Need-returns-5
 returns-5 c =
-    let legal = c .before .before .before .before .before in
+    let all = passed (c .before) in
+    let legal = all .before in
     let l = long legal in
     let s = sized (fitting l) in
     then-slots (limits s) (sizes s) (row s) (c .slots-fit .result)
     (fits (fitting l))
     (eq-eqb _ _ (exact l))
-    (sym (off legal) ∙ not-false _ (c .before .before .before .before .if4 .left))
+    (sym (off legal) ∙ not-false _ (all .if4 .left))
     (c .slots-fit .ensures ∙ ap (slots s) (ap valueBy (c .before .before .tops-of .ensures) ∙ by-table (limits s)))
     ∙ sym (claimed s)
 

@@ -25,13 +25,19 @@ only-legal-requires-2 c κs = search needs
 returns : tie.Need-returns
 unfolding numbersFit
 returns c =
-    let mbal = c .before .before .before .before .before .ballot-fits in
-    let bal = c .before .before .before .before .ballot-fits2 in
-    let top = c .before .before .before .ballot-fits3 in
-    let seenbal = c .before .before .ballot-fits4 in
-    let written = c .before .only-legal in
-    let read = c .only-legal2 in
-    simp (mbal .ensures, bal .ensures, top .ensures, seenbal .ensures, written .ensures, read .ensures)
+    let written = c .before in
+    let seenbal = written .before in
+    let top = seenbal .before in
+    let bal = top .before in
+    let mbal = bal .before in
+    simp (
+      mbal .ballot-fits .ensures,
+      bal .ballot-fits2 .ensures,
+      top .ballot-fits3 .ensures,
+      seenbal .ballot-fits4 .ensures,
+      written .only-legal .ensures,
+      c .only-legal2 .ensures,
+    )
 
 pub numbers-fit-spec : {M : Type 1} → statement M
 numbers-fit-spec =

@@ -32,11 +32,14 @@ test c = each (c .args .room .now) (c .args .tops .now) (c .args .k) (c .args .f
 abbrev Turn : Type 0
 Turn = tie.After-server-fits Inv-loop μ-loop
 
+abbrev head : Turn → tie.At-loop Inv-loop μ-loop
+head c = c .before .before .before
+
 abbrev start : Turn → tie.Start Inv-loop μ-loop
-start c = c .before .before .before .before .before
+start c = head c .before .before
 
 abbrev nth : Turn → ℕ
-nth c = c .before .before .before .loop .p
+nth c = head c .loop .p
 
 judged : (c : Turn) → c .server-fits .result ≡ test (start c) (nth c)
 judged c = c .server-fits .ensures ∙ ap (serverFits (valueBy (start c .args .tops .now)) (start c .args .k)) (c .before .server-in .ensures)
@@ -67,7 +70,7 @@ loop-less c = omega arith
 loop-again : tie.Need-loop-again Inv-loop μ-loop
 loop-again c =
     let t = c .before in
-    loop-goes-on (start t .args .count) (test (start t)) (nth t) (t .before .before .before .loop .inv)
+    loop-goes-on (start t .args .count) (test (start t)) (nth t) (head t .loop .inv)
     (t .before .before .loop-test .taken) (holds (judged t) (c .if1 .left))
 
 returns-2 : tie.Need-returns-2 Inv-loop μ-loop

@@ -39,8 +39,14 @@ fits c = slotFits (valueBy (c .args .tops .now)) (c .args .z) (c .args .room .no
 abbrev Turn : Type 0
 Turn = tie.Then1 Inv-loop μ-loop
 
+abbrev begun : tie.After-slot-length Inv-loop μ-loop → Start
+begun c = c .before .before .before .before
+
+abbrev measured : Turn → tie.After-slot-length Inv-loop μ-loop
+measured c = c .before .before .before
+
 abbrev start : Turn → Start
-start c = c .before .before .before .before .before .before .before
+start c = begun (measured c)
 
 abbrev value : Turn → ℕ → Bool
 value c = valueBy (start c .args .tops .now)
@@ -55,10 +61,10 @@ abbrev slot : Turn → ℕ
 slot c = c .before .before .loop .s
 
 abbrev long : Turn → ℕ
-long c = c .before .before .before .slot-length .result
+long c = measured c .slot-length .result
 
 long-is : (c : Turn) → long c ≡ slotLength (sizes c)
-long-is c = c .before .before .before .slot-length .ensures
+long-is c = measured c .slot-length .ensures
 
 small : (c : Turn) → slot c * long c ≤ 16 * longestSlot
 small c = slots-small (sizes c) (fit (start c)) (slot c) (long c) (long-is c) (omega arith)
@@ -113,7 +119,7 @@ slot-length-requires : tie.Need-slot-length-requires Inv-loop μ-loop
 slot-length-requires c κs = fit (c .before .before .before)
 
 loop-holds : tie.Need-loop-holds Inv-loop μ-loop
-loop-holds c = let at = c .before .before .before .before in loop-begins (at .args .z .slots) (fits at)
+loop-holds c = let at = begun c in loop-begins (at .args .z .slots) (fits at)
 
 cast-if1 : tie.Need-cast-if1 Inv-loop μ-loop
 cast-if1 c = search needs
@@ -167,7 +173,7 @@ loop-again c =
 
 returns-3 : tie.Need-returns-3 Inv-loop μ-loop
 returns-3 c =
-    let at = c .before .before .before .before .before .before .before in
+    let at = begun (c .before .before .before) in
     let loop = c .before .before .loop in
     loop-ends (at .args .z .slots) (fits at) (loop .s) (loop .inv) (omega arith)
 

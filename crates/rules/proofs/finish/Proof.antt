@@ -8,7 +8,7 @@ use borrow.Author.Tests.{eq-eqb, ne-eqb}
 use Rattle.rules.proofs.Judged.{judged}
 use Rattle.lemmas.proofs.Tests.{holds, lacks}
 use Rattle.quorum.specs.Sets.{majority}
-use Rattle.synod.specs.Changes.{proposing, committing}
+use Rattle.synod.specs.Changes.{proposing}
 use Rattle.checks.specs.Checks.{must}
 use Rattle.synod.specs.Rules.{balloting, completeOn, finishRule}
 
@@ -57,17 +57,16 @@ returns-4 c =
     )
 
 returns-5 : tie.Need-returns-5
-unfolding must finishRule committing
+unfolding must finishRule
 returns-5 c =
-    let at-if3 = c .before .before in
+    let at-if3 = c .before in
     let at-if2 = at-if3 .before .before in
     let not-one = ne-eqb _ _ (at-if3 .if3 .left) in
     simp (
       not-one,
       simp not-one at (in-phase (at-if2 .before .before .before)),
       complete at-if2,
-      c .cleared2 .ensures,
-      c .before .with-own2 .ensures,
+      c .agree-on .ensures,
     )
 
 pub finish-spec : {M : Type 1} → statement M
@@ -77,4 +76,4 @@ finish-spec =
     (search needs) (search needs) returns-2
     (search needs) returns-3
     (search needs) (search needs) returns-4
-    (search needs) (search needs) returns-5)
+    (search needs) returns-5)

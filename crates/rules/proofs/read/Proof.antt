@@ -11,16 +11,26 @@ use Rattle.synod.specs.Changes.{reading, marking}
 use Rattle.checks.specs.Checks.{must}
 use Rattle.synod.specs.Rules.{balloting, readRule}
 
+-- the start of the call, past the first check, the second and the third
+abbrev first : tie.Else1 → tie.Start
+first c = c .before .before
+
+abbrev second : tie.Else2 → tie.Start
+second c = first (c .before .before)
+
+abbrev third : tie.Else3 → tie.Start
+third c = second (c .before .before)
+
 -- past the check of the phase
-in-phase : (c : tie.Else1) → balloting (c .before .before .args .v) ≡ true
+in-phase : (c : tie.Else1) → balloting (first c .args .v) ≡ true
 in-phase c = holds (c .before .in-ballot .ensures) (c .if1 .left)
 
 -- past the check that the drive is on
-on : (c : tie.Else2) → let a = c .before .before .before .before .args in stands (a .off) (a .d) ≡ false
+on : (c : tie.Else2) → stands (second c .args .off) (second c .args .d) ≡ false
 on c = sym (c .before .has-mark .ensures) ∙ c .if2 .left
 
 -- past the check that the drive was written
-written : (c : tie.Else3) → let a = c .before .before .before .before .before .before .args in stands (a .v .written) (a .d) ≡ true
+written : (c : tie.Else3) → stands (third c .args .v .written) (third c .args .d) ≡ true
 written c = holds (c .before .has-mark2 .ensures) (c .if3 .left)
 
 returns : tie.Need-returns
@@ -40,22 +50,41 @@ returns-3 c =
 returns-4 : tie.Need-returns-4
 unfolding must readRule
 returns-4 c =
-    let at-if3 = c .before .before .before .before in
+    let at-if4 = c .before in
+    let at-if3 = at-if4 .before .before in
     let at-if2 = at-if3 .before .before in
-    simp (in-phase (at-if2 .before .before), on at-if2, written at-if3, le-ltb _ _ (c .before .if4 .taken), c .outbid .ensures)
+    simp (in-phase (at-if2 .before .before), on at-if2, written at-if3, at-if4 .if4 .taken, c .agree-on .ensures)
 
 returns-5 : tie.Need-returns-5
-unfolding must readRule reading marking
+unfolding must readRule
 returns-5 c =
-    let at-read-bit = c .before .before in
-    let at-if4 = at-read-bit .before in
-    let at-if3 = at-if4 .before .before .before in
+    let at-if5 = c .before in
+    let at-if4 = at-if5 .before in
+    let at-if3 = at-if4 .before .before in
     let at-if2 = at-if3 .before .before in
     simp (
       in-phase (at-if2 .before .before),
       on at-if2,
       written at-if3,
-      lt-ltb _ _ (at-if4 .if4 .left),
+      at-if4 .if4 .left,
+      le-ltb _ _ (at-if5 .if5 .taken),
+      c .outbid .ensures,
+    )
+
+returns-6 : tie.Need-returns-6
+unfolding must readRule reading marking
+returns-6 c =
+    let at-read-bit = c .before .before in
+    let at-if5 = at-read-bit .before in
+    let at-if4 = at-if5 .before in
+    let at-if3 = at-if4 .before .before in
+    let at-if2 = at-if3 .before .before in
+    simp (
+      in-phase (at-if2 .before .before),
+      on at-if2,
+      written at-if3,
+      at-if4 .if4 .left,
+      lt-ltb _ _ (at-if5 .if5 .left),
       c .meet .ensures,
       c .before .with-mark .ensures,
       at-read-bit .read-bit .ensures,
@@ -68,4 +97,5 @@ read-spec =
     (search needs) returns-2
     (search needs) returns-3
     (search needs) returns-4
-    (search needs) (search needs) (search needs) returns-5)
+    (search needs) returns-5
+    (search needs) (search needs) (search needs) returns-6)

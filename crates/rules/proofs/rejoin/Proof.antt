@@ -13,13 +13,16 @@ use Rattle.synod.specs.Changes.{rejoining}
 use Rattle.checks.specs.Checks.{must}
 use Rattle.synod.specs.Rules.{recalledOn, rejoinRule}
 
--- past the check of the ballot
-own : (c : tie.Else1) → let a = c .before .before .args in owned (a .servers) (a .p) (a .ballot) ≡ true
+-- the start of the call, past the check of the ballot
+abbrev start : tie.Else1 → tie.Start
+start c = c .before .before
+
+own : (c : tie.Else1) → let a = start c .args in owned (a .servers) (a .p) (a .ballot) ≡ true
 own c = holds (c .before .is-own .ensures) (c .if1 .left)
 
 -- the drives recalled are a majority
 abbrev enough : tie.After-is-majority → Bool
-enough c = let a = c .before .before .before .before .before .before .args in majority (a .drives) (recalledOn (a .v) (a .p))
+enough c = let a = start (c .before .before .before .before) .args in majority (a .drives) (recalledOn (a .v) (a .p))
 
 -- that is what is_majority answers
 counted : (c : tie.After-is-majority) → c .is-majority .result ≡ enough c

@@ -7,15 +7,15 @@ use mathlib.Core.Bool.{true}
 use Rattle.lemmas.proofs.Tests.{holds, lacks}
 use Rattle.synod.specs.Changes.{writing}
 use Rattle.checks.specs.Checks.{must}
-use Rattle.synod.specs.Rules.{balloting, writeRule}
+use Rattle.synod.specs.Rules.{joined, writeRule}
 
 -- past the check of the phase
-in-phase : (c : tie.Else1) → balloting (c .before .before .args .v) ≡ true
-in-phase c = holds (c .before .in-ballot .ensures) (c .if1 .left)
+in-phase : (c : tie.Else1) → joined (c .before .before .args .v) ≡ true
+in-phase c = holds (c .before .has-joined .ensures) (c .if1 .left)
 
 returns : tie.Need-returns
 unfolding must writeRule
-returns c = simp (lacks (c .before .in-ballot .ensures) (c .if1 .taken))
+returns c = simp (lacks (c .before .has-joined .ensures) (c .if1 .taken))
 
 returns-2 : tie.Need-returns-2
 unfolding must writeRule

@@ -5,15 +5,16 @@ use std::fs::{self, File};
 use std::path::{Path, PathBuf};
 use std::process::{Command, ExitCode, Stdio};
 
-use other::generator::{make_input, Halves, Tally};
+use other::generator::{make_input, replay, Halves, Learning, Tally};
 use other::{rehearse, room_length};
 
 const USAGE: &str = "\
 usage:
   runs make SEED COUNT DIR [MOST]  write COUNT inputs, of MOST records at most, as DIR/NUMBER.run
   runs answers DIR                 write what rehearse prints for each, as DIR/NUMBER.out
-  runs stats DIR                   count the answers, and the steps that half of the drives
-                                   decide; fail if one of these never occurs
+  runs stats DIR                   count the answers, the steps that half of the drives
+                                   decide, and what is told and learned of settled commands;
+                                   fail if one of these never occurs
   runs compare DIR PROGRAM         run PROGRAM on each; fail if an output differs";
 
 fn main() -> ExitCode {
@@ -67,12 +68,16 @@ fn answers(dir: &str) -> Outcome {
 fn stats(dir: &str) -> Outcome {
     let mut tally = Tally::default();
     let mut halves = Halves::default();
+    let mut learning = Learning::default();
     let mut sizes = Vec::new();
     let mut longest = 0;
     for path in inputs(dir)? {
         let input = read(&path)?;
         tally.count(&rehearse(&input));
-        halves.count(&input);
+        replay(&input, |taken| {
+            halves.count(&taken);
+            learning.count(&taken);
+        });
         longest = longest.max(input.len());
         if let &[servers, drives, slots, ..] = &input[..] {
             if room_length(servers.into(), drives.into(), slots.into()) != 0 {
@@ -82,11 +87,14 @@ fn stats(dir: &str) -> Outcome {
     }
     sizes.sort_unstable();
     sizes.dedup();
-    let report = tally.report() + &halves.report();
+    let report = tally.report() + &halves.report() + &learning.report();
     let (missing, unexpected) = (tally.missing(), tally.unexpected());
     let text = format!("{report}room sizes {}, longest input {longest} bytes", sizes.len());
     if halves.least() == 0 {
         return Err(format!("{text}\nhalf of the drives decides too few steps"));
+    }
+    if learning.least() == 0 {
+        return Err(format!("{text}\ntoo little is told and learned"));
     }
     if missing.is_empty() && unexpected.is_empty() {
         return Ok(text);

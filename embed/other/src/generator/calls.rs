@@ -2,7 +2,8 @@
 //! Neither has a step record, so inputs for rehearse have steps alone.
 
 use super::chance::Chance;
-use super::driver::{Driver, Habits};
+use super::driver::Driver;
+use super::habits::Habits;
 use super::noise::any_command;
 use crate::free_slots::{ask, put};
 use crate::room::Sizes;

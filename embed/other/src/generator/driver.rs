@@ -1,49 +1,15 @@
 //! Steps of servers that follow the protocol. One server acts for a while in
-//! one slot, then another; failures, switched drives and noise come between.
+//! one slot, then another; failures, switched drives and noise come between. A
+//! server that knows what is settled may tell it: it writes that to the drives.
 
 use super::chance::Chance;
+use super::habits::Habits;
 use super::noise::{any_step, good_command};
 use crate::refusal;
 use crate::room::{Sizes, OFF};
 use crate::server::{is_majority, Server};
 use crate::steps::{Answer, Step};
 use crate::{least_own_above, BALLOT_LIMIT};
-
-/// How a run goes. The rates are of a thousand steps.
-#[derive(Clone, Copy, Debug)]
-pub struct Habits {
-    /// Steps of any kind.
-    pub noise: u32,
-    /// Failures of a server.
-    pub failures: u32,
-    /// Switches of a drive.
-    pub switches: u32,
-    /// Bids without need.
-    pub bids: u32,
-    /// About how many steps a server takes before another does.
-    pub turn: u32,
-    /// The slots where ballots are near the limit, as marks.
-    pub high: u32,
-    /// Whether half of the drives, rounded down, are off from the start, and
-    /// later, now and then, another half.
-    pub half_off: bool,
-}
-
-impl Habits {
-    /// Habits of every sort.
-    pub fn any(chance: &mut Chance) -> Habits {
-        let high = if chance.one_in(4) { chance.draw() as u32 & chance.draw() as u32 } else { 0 };
-        Habits {
-            noise: chance.one_of(&[10, 40, 100, 250]),
-            failures: chance.one_of(&[0, 2, 8, 20]),
-            switches: chance.one_of(&[0, 5, 30]),
-            bids: chance.one_of(&[0, 2, 10]),
-            turn: chance.one_of(&[3, 8, 20, 40, 80]),
-            high,
-            half_off: chance.one_in(2),
-        }
-    }
-}
 
 /// The servers of one run.
 #[derive(Clone, Debug)]
@@ -56,11 +22,13 @@ pub struct Driver {
     /// The slots, as marks, that each server has given up.
     given_up: [u32; 4],
     /// The turn: the server that acts, its slot, the drive it begins with,
-    /// whether it offers nothing, and how many steps are left.
+    /// whether it offers nothing, whether it tells what is settled, and how many
+    /// steps are left.
     server: usize,
     slot: usize,
     first: usize,
     silent: bool,
+    tells: bool,
     left: u32,
     /// Whether the last step was one of the turn.
     acted: bool,
@@ -83,6 +51,7 @@ impl Driver {
             slot: 0,
             first: 0,
             silent: false,
+            tells: false,
             left: 0,
             acted: false,
         }
@@ -108,7 +77,7 @@ impl Driver {
         if chance.per_mille(self.habits.switches) {
             return self.switch(chance, room);
         }
-        if self.left == 0 || self.own(room).output().is_some() {
+        if self.left == 0 || !self.has_work(room, self.slot, self.server) {
             if let Some(step) = self.new_turn(chance, room) {
                 return step;
             }
@@ -129,16 +98,15 @@ impl Driver {
         }
     }
 
-    /// Chooses the server and the slot of the next turn. Where every server
-    /// has put out or given up every slot, the step is the failure of one.
+    /// Chooses the server and the slot of the next turn. Where no server has
+    /// anything left to do, the step is the failure of one.
     fn new_turn(&mut self, chance: &mut Chance, room: &[u32]) -> Option<Step> {
         let offset = chance.place(self.sizes.servers);
+        self.tells = chance.per_mille(self.habits.tells);
         for next in 0..self.sizes.servers {
             let server = (offset + next) % self.sizes.servers;
-            let open: Vec<usize> = (0..self.sizes.slots)
-                .filter(|&slot| self.given_up[server] >> slot & 1 == 0)
-                .filter(|&slot| self.server(room, slot, server).output().is_none())
-                .collect();
+            let open: Vec<usize> =
+                (0..self.sizes.slots).filter(|&slot| self.has_work(room, slot, server)).collect();
             if let Some(&lowest) = open.first() {
                 self.server = server;
                 self.slot = if chance.one_in(4) { chance.one_of(&open) } else { lowest };
@@ -152,11 +120,26 @@ impl Driver {
         Some(Step::Fail { server: offset as u8 })
     }
 
+    /// Whether there is something to do for a server in a slot: to put out a
+    /// command, unless it has given the slot up, or in a turn that tells, to write
+    /// it to a drive.
+    fn has_work(&self, room: &[u32], slot: usize, server: usize) -> bool {
+        let own = self.server(room, slot, server);
+        match own.output() {
+            Some(_) => self.tells && self.usable(room, own.written).is_some(),
+            None => self.given_up[server] >> slot & 1 == 0,
+        }
+    }
+
     /// The step that helps the acting server in its slot.
     fn act(&self, chance: &mut Chance, room: &[u32]) -> Step {
         let own = self.own(room);
         let Sizes { servers, drives, .. } = self.sizes;
         let (server, slot) = (self.server as u8, self.slot as u8);
+        if own.phase == 3 {
+            let drive = self.usable(room, own.written).unwrap_or(0) as u8;
+            return Step::Write { server, slot, drive };
+        }
         if own.phase == 0 {
             let recalled = own.recalled(self.server, drives);
             let rejoin = Step::Rejoin { server, slot, number: self.ballot(chance, own.top) };
@@ -172,7 +155,7 @@ impl Driver {
             return Step::Offer { server, slot, number: good_command(chance, &self.pieces) };
         }
         if chance.per_mille(self.habits.bids) {
-            return Step::Bid { server, slot, number: self.ballot(chance, own.own.mbal) };
+            return Step::Bid { server, slot, number: self.ballot(chance, own.mbal) };
         }
         let completed = own.completed(self.server, servers, drives);
         let finish = Step::Finish { server, slot };
@@ -253,7 +236,7 @@ impl Driver {
     fn ballot(&self, chance: &mut Chance, below: u32) -> u32 {
         let servers = self.sizes.servers as u32;
         let high = self.habits.high >> self.slot & 1 == 1;
-        let start = if high { below.max(BALLOT_LIMIT - chance.from_to(1, 12)) } else { below };
+        let start = if high { below.max(BALLOT_LIMIT - chance.from_to(1, 8)) } else { below };
         let least = least_own_above(start, self.server as u32, servers)
             .or_else(|| least_own_above(below, self.server as u32, servers));
         let least = least.unwrap_or_else(|| self.last_ballot());

@@ -1,11 +1,10 @@
 //! How often exactly half of the drives decide a step.
 
-use crate::records::read_record;
+use super::replay::Taken;
 use crate::refusal;
-use crate::rehearse::INPUT_LIMIT;
-use crate::room::{open, room_length, Sizes};
+use crate::room::Sizes;
 use crate::server::Server;
-use crate::steps::{step, Answer, Step};
+use crate::steps::{Answer, Step};
 
 /// The numbers of drives of which a set can be exactly half.
 const EVEN: [usize; 3] = [2, 4, 6];
@@ -20,33 +19,11 @@ pub struct Halves {
 }
 
 impl Halves {
-    /// Counts the steps of an input for rehearse.
-    pub fn count(&mut self, input: &[u8]) {
-        let &[servers, drives, slots, ref records @ ..] = input else {
-            return;
-        };
-        let (servers, drives, slots) = (servers.into(), drives.into(), slots.into());
-        let Some(sizes) = Sizes::fit(servers, drives, slots) else {
-            return;
-        };
-        let mut room = vec![0; room_length(servers, drives, slots) as usize];
-        if input.len() > INPUT_LIMIT || open(&mut room, servers, drives, slots).is_err() {
-            return;
-        }
-        let mut left = records;
-        while let Ok((next, length)) = read_record(left) {
-            let half = decisive_half(&room, sizes, next);
-            let answer = step(&mut room, next);
-            if let Some(half) = half {
-                self.count_step(sizes.drives, half, answer);
-            }
-            left = &left[length..];
-        }
-    }
-
-    /// Counts a step that was decided by half of the drives.
-    pub fn count_step(&mut self, drives: usize, half: u32, answer: Answer) {
-        let Some(place) = EVEN.iter().position(|&even| even == drives) else {
+    /// Counts a step, if half of the drives decided it.
+    pub fn count(&mut self, taken: &Taken) {
+        let &Taken { sizes, before, step, answer } = taken;
+        let place = EVEN.iter().position(|&even| even == sizes.drives);
+        let (Some(place), Some(half)) = (place, decisive_half(before, sizes, step)) else {
             return;
         };
         match (half & 1, answer) {
@@ -75,7 +52,7 @@ impl Halves {
 
 /// The marks of the drives that a Rejoin or a Finish has, where they are exactly
 /// half of all and the server is in a phase for the step.
-pub fn decisive_half(room: &[u32], sizes: Sizes, next: Step) -> Option<u32> {
+fn decisive_half(room: &[u32], sizes: Sizes, next: Step) -> Option<u32> {
     let (Step::Rejoin { server, slot, .. } | Step::Finish { server, slot }) = next else {
         return None;
     };

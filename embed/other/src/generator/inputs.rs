@@ -1,7 +1,8 @@
 //! Whole inputs for rehearse: N, D, S, then records.
 
 use super::chance::Chance;
-use super::driver::{Driver, Habits};
+use super::driver::Driver;
+use super::habits::Habits;
 use crate::records::{write_record, LONGEST_RECORD};
 use crate::rehearse::INPUT_LIMIT;
 use crate::room::{open, Sizes};

@@ -88,7 +88,7 @@ fn any_ballot(chance: &mut Chance, room: &[u32], sizes: Sizes, server: u8, slot:
         return if chance.one_in(2) { chance.one_of(&edges) } else { chance.from_to(1, 40) };
     }
     let own = Server::load(room, sizes.server_at(at, p));
-    let known = own.own.mbal.max(own.top);
+    let known = own.mbal.max(own.top);
     match chance.below(4) {
         // Any owner, a little above or below.
         0 => (known + 3).saturating_sub(chance.below(8)),
