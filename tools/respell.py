@@ -5,7 +5,7 @@ usage: tools/respell.py        at the top of a tree that the toolchain's port.py
 
 tools/respell.txt has a line for each name, the old and the new: functions, lemmas and fields in snake case, a dash only
 beside a word of the library (length, zero, suc) or a type. A lemma that would get the name of a definition ends in _lem.
-The table has the names that port.py turns too, since it leaves must-fail/*.edit and the pages as they are.
+The table has most names that port.py turns too, since it leaves must-fail/*.edit and the pages as they are.
 The names of src/, of files, modules, types and constructors stay. Names are turned in crates/ (.antt, .rt, .edit) and,
 between backticks, in the pages for people.
 """

@@ -1,17 +1,20 @@
 // Ballots: who owns one, and a server's least ballot above one that it found.
+#![tactic(auto)]
+
 ghost use Rattle.std.specs.Prelude.{◌≡◌, true};
 ghost use Rattle.ballot.specs.Ballot.{owned, askable, least_above, next_own};
 
 use state::Block;
 
 // A server's next ballot, or none where its ballots are spent.
-#[derive(Drop)]
+#[derive(Clone, Copy)]
 pub enum Next {
     Ballot(u32),
     Spent,
 }
 
 // Whether b is a ballot of server p in a room of n servers.
+#[tactic(auto, unfolding(crate::specs::Ballot::owned))]
 pub fn is_own(n: u32, p: u32, b: u32) -> bool
     ensures { result ≡ owned n p b }
 {
@@ -26,6 +29,7 @@ pub fn is_own(n: u32, p: u32, b: u32) -> bool
 }
 
 // The least ballot of server p above the one found, in a room of n servers, 1 to 4.
+#[tactic(auto, unfolding(crate::specs::Ballot::next_own))]
 pub fn next_own(n: u32, p: u32, found: u32) -> Next
     ensures { result ≡ next_own n p found }
 {
@@ -41,6 +45,7 @@ pub fn next_own(n: u32, p: u32, found: u32) -> Next
 // The least number above the one found that is p's by its remainder. Nothing is divided by n, since a small board divides
 // slowly: a remainder by 3 is a multiplication, and one by 1, 2 or 4 is the low bits. What lies between is counted back
 // from the limit, a multiple of 4, or from two more, a multiple of 3; so no number on the way is above 1,000,004.
+#[tactic(auto, using(crate::proofs::Remainders::by_three, crate::proofs::Remainders::by_low_bits))]
 fn least_above(n: u32, p: u32, found: u32) -> u32
     requires { askable n p found ≡ true }
     ensures { result ≡ least_above n p found }

@@ -14,11 +14,11 @@ module _ {A : Type 0} (refused : ℕ → A) where
   fails b n rest e = simp e
 
   -- what holds of the refusal, and of the rest where the condition holds, holds of both
-  pub must-cases {ℓ}
+  pub must_cases {ℓ}
       : (P : A → Type ℓ) (b : Bool) (n : ℕ) (rest : A) → P (refused n) → (b ≡ true → P rest) → P (must refused b n rest)
   unfolding must
-  must-cases P true n rest stop way = way refl
-  must-cases P false n rest stop way = stop
+  must_cases P true n rest stop way = way refl
+  must_cases P false n rest stop way = stop
 
 pub either-cases {ℓ} : {A : Type 0} (P : A → Type ℓ) (t : Bool) (x y : A) → (t ≡ true → P x) → (t ≡ false → P y) → P (cond t x y)
 either-cases P true x y left right = left refl

@@ -2,7 +2,7 @@
 -- the lowest.
 use Prim.Native.Nat.{ℕ, ◌<◌, ◌≤◌}
 use mathlib.Core.Path.{◌≡◌, refl, ◌∙◌, sym, ap}
-use mathlib.Core.Bool.{true, false, cond}
+use mathlib.Core.Bool.{true, false}
 use mathlib.Core.List.Memᴰ
 use mathlib.Core.List.{List, [], ◌∷◌, Memᴰ}
 use mathlib.Core.Logic.{◌⊎◌, inl, inr}
@@ -40,7 +40,7 @@ lowest_first n (x ∷ rs) up r m e =
 
     go
         : (r ≡ x) ⊎ Memᴰ r rs → (Memᴰ r rs → r.applies ≡ true → Above x.number (lowest rs) r.number)
-        → Above n (cond x.applies x.number (lowest rs)) r.number
+        → Above n (lowest (x ∷ rs)) r.number
     go (inl s) rest =
         let k = h in
         let same : x.number ≡ r.number = ap (λ (y : Refusal). y.number) (sym s) in
@@ -55,22 +55,22 @@ lowest_first n (x ∷ rs) up r m e =
 
 -- refused makes the answer of a number, and number reads it off an answer: 0 where the answer is no refusal
 module _ {A : Type 0} (refused : ℕ → A) (number : A → ℕ) (reads : (n : ℕ) → number (refused n) ≡ n) where
-  first-in
+  first_in
       : (c : Checked A) (rest : List Refusal) → lowest rest ≡ 0 → AllGive (λ a. number a ≡ 0) c
       → number (outcome refused c) ≡ lowest (refusals_in true c rest)
   unfolding lowest must
-  first-in (Must true n c) rest h s = first-in c rest h s
-  first-in (Must false n c) rest h s = reads n
-  first-in (Either true x y) rest h s = first-in x (refusals_in false y rest) (closed y rest ∙ h) s.0
-  first-in (Either false x y) rest h s = first-in y rest h s.1 ∙ sym (closed x (refusals_in true y rest))
-  first-in (Gives a) rest h s = s ∙ sym h
+  first_in (Must true n c) rest h s = first_in c rest h s
+  first_in (Must false n c) rest h s = reads n
+  first_in (Either true x y) rest h s = first_in x (refusals_in false y rest) (closed y rest ∙ h) s.0
+  first_in (Either false x y) rest h s = first_in y rest h s.1 ∙ sym (closed x (refusals_in true y rest))
+  first_in (Gives a) rest h s = s ∙ sym h
 
   -- the answer carries the first refusal that applies
   pub first_applies : (c : Checked A) → AllGive (λ a. number a ≡ 0) c → number (outcome refused c) ≡ lowest (refusals_of c)
-  first_applies c s = first-in c [] (unfold lowest in refl) s
+  first_applies c s = first_in c [] (unfold lowest in refl) s
 
   -- and no other that applies is lower, where the numbers rise
-  pub least-applies
+  pub least_applies
       : (c : Checked A) → AllGive (λ a. number a ≡ 0) c → rises 0 (numbers_of (refusals_of c)) ≡ true
       → (r : Refusal) → Memᴰ r (refusals_of c) → r.applies ≡ true → number (outcome refused c) ≤ r.number
-  least-applies c s up r m e = rw (first_applies c s) (lowest_first 0 (refusals_of c) up r m e).least
+  least_applies c s up r m e = rw (first_applies c s) (lowest_first 0 (refusals_of c) up r m e).least

@@ -57,12 +57,12 @@ apart h limit false false b = none_below h
 
 module _ (limits : List ℕ) (v : ℕ) where
   -- what is looked up, in the words of `is_command`
-  top-at
+  top_at
       : v < 196608
       → get_or (tops_of limits) (v / 2048) 0
       ≡ cond ((eqb (kind_of v) enter || eqb (kind_of v) move) && leb (piece_of v) 63) (byte_of (limit_of limits (piece_of v))) 0
   unfolding top_of limit_of
-  top-at small =
+  top_at small =
       let here : 0 + v / 2048 ≡ v / 2048 = omega arith in
       let kind : v / 2048 / 32 ≡ kind_of v = omega arith in
       let cabinet : v / 2048 % 32 ≡ piece_of v / 8 = omega arith in
@@ -77,7 +77,7 @@ module _ (limits : List ℕ) (v : ℕ) where
   below small =
       let none : eqb (kind_of v) strike ≡ false = ne_eqb (kind_of v) strike (λ e. omega arith) in
       let kind = eqb (kind_of v) enter || eqb (kind_of v) move in
-      simp (top-at small, none, or-false) (apart (hoard_of v) (limit_of limits (piece_of v)) kind (leb (piece_of v) 63) (omega arith))
+      simp (top_at small, none, or-false) (apart (hoard_of v) (limit_of limits (piece_of v)) kind (leb (piece_of v) 63) (omega arith))
 
   strike_judged : 196608 ≤ v → (eqb (hoard_of v) 0 && eqb (v / 16384) 12) ≡ is_command limits v
   strike_judged low =

@@ -1,4 +1,6 @@
 // Commands: whether a 32-bit number is one, and its kind, piece and hoard.
+#![tactic(auto)]
+
 ghost use Rattle.std.specs.Prelude.{◌≡◌};
 ghost use Rattle.command.specs.Command.{kind_of, piece_of, hoard_of, is_command, cabinet_limits};
 ghost use Rattle.command.specs.Tops.{byte_of, tops_of, value_by};
@@ -37,6 +39,7 @@ pub fn limits() -> [u32; 8]
 
 // Whether v is a command where each cabinet has the limit given. One test finds the kind and that the piece is
 // below 64: v / 16384 is four times the kind, and above that where the piece is too large.
+#[tactic(auto, using(crate::proofs::Laws::enters_or_moves, crate::proofs::Laws::strikes, crate::proofs::Laws::no_command))]
 pub fn is_command(limits: &[u32; 8], v: u32) -> bool
     ensures { result ≡ is_command limits.now v }
 {
@@ -75,6 +78,7 @@ fn byte(limit: u32) -> u8
 }
 
 // Whether v is 0 or a command, by one look into the table.
+#[tactic(auto, unfolding(crate::specs::Tops::value_by))]
 pub fn is_value(tops: &[u8; 96], v: u32) -> bool
     ensures { result ≡ value_by tops.now v }
 {

@@ -1,8 +1,7 @@
--- Bool tests taken apart: by cases that keep the equation, by the parts of an `&&` or an `||`, and from the code.
+-- Bool tests taken apart: by cases that keep the equation, and by the parts of an `&&` or an `||`.
 use mathlib.Core.Path.{◌≡◌, refl, ◌∙◌, sym}
-use mathlib.Core.Bool.{Bool, true, false, not, ◌&&◌, ◌||◌, true≢false}
+use mathlib.Core.Bool.{Bool, true, false, ◌&&◌, ◌||◌, true≢false}
 use mathlib.Core.Logic.{◌⊎◌, inl, inr}
-use borrow.Author.Tests.{not-true, not-false}
 
 -- goes by the value of b and keeps the equation
 pub by_test {ℓ} : {X : Type ℓ} (b : Bool) → (b ≡ true → X) → (b ≡ false → X) → X
@@ -62,11 +61,3 @@ none_right true b e = e
 pub goes_on : (a b x : Bool) → a ≡ true → x ≡ b → x ≡ (a && b)
 goes_on true b x e f = f
 goes_on false b x e f = absurd (true≢false (sym e))
-
--- what `if !answer { return .. }` says of a condition, where a callee's answer is that condition: the code went on
-pub holds : {answer b : Bool} → answer ≡ b → not answer ≡ false → b ≡ true
-holds e left = sym e ∙ not-false _ left
-
--- the code returned
-pub lacks : {answer b : Bool} → answer ≡ b → not answer ≡ true → b ≡ false
-lacks e taken = sym e ∙ not-true _ taken

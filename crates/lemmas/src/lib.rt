@@ -1,1 +1,2 @@
 // Lemmas that several crates cite; there is no code here.
+#![tactic(auto)]

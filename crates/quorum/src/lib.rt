@@ -1,9 +1,12 @@
 // Marks in a 32-bit cell, and which marked sets of drives are a majority.
+#![tactic(auto)]
+
 ghost use Rattle.std.specs.Prelude.{◌≡◌};
 ghost use Rattle.quorum.specs.Marks.{stands, marked, unmarked};
 ghost use Rattle.quorum.specs.Sets.{majority, within};
 
 // Whether bit i of a mark cell stands. A cell has no bit 32 or above.
+#[tactic(auto, unfolding(crate::specs::Marks::stands))]
 pub fn has_mark(marks: u32, i: u32) -> bool
     ensures { result ≡ stands marks i }
 {
@@ -11,6 +14,7 @@ pub fn has_mark(marks: u32, i: u32) -> bool
 }
 
 // The cell with bit i set.
+#[tactic(auto, using(crate::proofs::MarkLaws::or_marks, crate::proofs::Shift::one_shifted, crate::proofs::MarkLaws::marked_out))]
 pub fn with_mark(marks: u32, i: u32) -> u32
     ensures { result ≡ marked marks i }
 {

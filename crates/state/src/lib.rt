@@ -1,11 +1,13 @@
 // What the algorithm is about, by value: a block, a server's record, a step, an answer.
+#![tactic(auto)]
+
 ghost use Rattle.std.specs.Prelude.{◌≡◌};
 ghost use Rattle.state.specs.Block.{ballot_fits, same_block};
 ghost use Rattle.state.specs.Server.{with_own, with_agreed, cleared, failed, own_block, output_of, is_free};
 ghost use Rattle.state.specs.Answers.{code_of, number_of};
 
 // How many servers, drives and slots a room has.
-#[derive(Drop)]
+#[derive(Clone, Copy)]
 pub struct Sizes {
     pub servers: u32,
     pub drives: u32,
@@ -14,7 +16,7 @@ pub struct Sizes {
 
 // What a server keeps on a drive: its current ballot, the last ballot in which its phase 2 began, the command tried in
 // that one, and the command that the slot was settled with, where the server knew it when it wrote.
-#[derive(Drop)]
+#[derive(Clone, Copy)]
 pub struct Block {
     pub mbal: u32,
     pub bal: u32,
@@ -41,6 +43,7 @@ impl Block {
     }
 
     // Whether the two blocks are equal, cell by cell.
+    #[tactic(auto, unfolding(crate::specs::Block::same_block))]
     pub fn same(self, other: Block) -> bool
         ensures { result ≡ same_block self other }
     {
@@ -53,7 +56,7 @@ impl Block {
 
 // A server's record in one slot (SPEC, "The room in memory"). Seenbal and seeninp are the best bal met in this phase and its
 // inp, top is the largest mbal recalled in phase 0, agreed is the command that the slot was settled with.
-#[derive(Drop)]
+#[derive(Clone, Copy)]
 pub struct Server {
     pub phase: u32,
     pub mbal: u32,
@@ -142,7 +145,7 @@ impl Server {
 
 // A step, one of ten kinds with its own numbers: server, slot, drive and other as bytes, in this order, then the
 // number, a command or a ballot.
-#[derive(Drop)]
+#[derive(Clone, Copy)]
 pub enum Step {
     // server, slot, command
     Offer(u8, u8, u32),
@@ -167,7 +170,7 @@ pub enum Step {
 }
 
 // What a step answers: outbid with the ballot found, chosen and committed with the command, refused with its number.
-#[derive(Drop)]
+#[derive(Clone, Copy)]
 pub enum Answer {
     Done,
     Outbid(u32),

@@ -66,7 +66,7 @@ module _ {c : Config} {g : Ghost} {σ : Slot} (inv : Invariant c g σ) (p : ℕ)
       }
 
   -- 7 Finish, phase 2
-  pub commit-kept
+  pub commit_kept
       : Invariant c (note_commit (commit_ballot (σ p).own.mbal (σ p).own.inp g.commits) (σ p).own.inp g)
       (updated σ p (with_record (σ p) (agreeing (σ p).own (σ p).own.inp)))
-  commit-kept = agree_kept inv p lp (omega arith) (σ p).own.inp (inl binds)
+  commit_kept = agree_kept inv p lp (omega arith) (σ p).own.inp (inl binds)

@@ -29,7 +29,7 @@ use Rattle.synod.proofs.ReadStep.{read_change}
 use Rattle.synod.proofs.AgreeStep.{learn_kept}
 use Rattle.synod.proofs.Completes.{completes}
 use Rattle.synod.proofs.ChooseStep.{choose_kept}
-use Rattle.synod.proofs.CommitStep.{commit-kept}
+use Rattle.synod.proofs.CommitStep.{commit_kept}
 
 -- the invariant after the step st, if its rule says r
 abbrev Keeps : Config → Ghost → Slot → Step → Ruling → Type 0
@@ -85,7 +85,7 @@ module _ {c : Config} {g : Ghost} {σ : Slot} (inv : Invariant c g σ) where
         (λ one most some.
         choose_kept
         (record { inv = inv; within = lp; one = one; full = completes c (σ p).own p most; some = some }))
-        (λ two most. commit-kept inv p lp two (completes c (σ p).own p most))
+        (λ two most. commit_kept inv p lp two (completes c (σ p).own p most))
 
     fail_kept : Keeps c g σ (Fail p) (Accepted failed Done)
     unfolding noted after heard

@@ -23,7 +23,7 @@ use Rattle.synod.specs.declared.Ruling.{Ruling}
 use Rattle.synod.specs.declared.Ruling.TheVariants.{Refused, Accepted}
 use Rattle.synod.specs.Changes.{meeting, topping, recalling, rejoining, bidding, writing, reading, proposing}
 use Rattle.checks.specs.Checks.{must}
-use Rattle.checks.proofs.CheckLaws.{must-cases, either-cases}
+use Rattle.checks.proofs.CheckLaws.{must_cases, either-cases}
 use Rattle.synod.proofs.Machine.{ruled}
 use Rattle.synod.specs.Rules.{balloting, joined, recalled_on, complete_on, command_of, recall_rule, rejoin_rule, bid_rule, write_rule, outbid_rule, learn_rule, read_rule, commit_rule, finish_rule, ruling, rule_of}
 use Rattle.synod.specs.Slot.{Slot, Config}
@@ -61,8 +61,8 @@ module _ (P : Ruling → Type 0) where
         → P (ruling (recall_rule off v b p d))
     unfolding recall_rule
     recall_cases off b p d way =
-        must-cases Refused P _ _ _ (stop _) (λ phase.
-        must-cases Refused P _ _ _ (stop _) (λ on.
+        must_cases Refused P _ _ _ (stop _) (λ phase.
+        must_cases Refused P _ _ _ (stop _) (λ on.
         way (eqb-true v.phase 0 phase)))
 
     pub rejoin_cases : (servers drives p b : ℕ)
@@ -71,10 +71,10 @@ module _ (P : Ruling → Type 0) where
         → P (ruling (rejoin_rule servers drives v p b))
     unfolding rejoin_rule
     rejoin_cases servers drives p b way =
-        must-cases Refused P _ _ _ (stop _) (λ mine.
-        must-cases Refused P _ _ _ (stop _) (λ phase.
-        must-cases Refused P _ _ _ (stop _) (λ most.
-        must-cases Refused P _ _ _ (stop _) (λ up.
+        must_cases Refused P _ _ _ (stop _) (λ mine.
+        must_cases Refused P _ _ _ (stop _) (λ phase.
+        must_cases Refused P _ _ _ (stop _) (λ most.
+        must_cases Refused P _ _ _ (stop _) (λ up.
         way mine (eqb-true v.phase 0 phase) most (omega (arith, ltb-true))))))
 
     pub bid_cases : (servers p b : ℕ)
@@ -82,16 +82,16 @@ module _ (P : Ruling → Type 0) where
         → P (ruling (bid_rule servers v p b))
     unfolding bid_rule
     bid_cases servers p b way =
-        must-cases Refused P _ _ _ (stop _) (λ mine.
-        must-cases Refused P _ _ _ (stop _) (λ phase.
-        must-cases Refused P _ _ _ (stop _) (λ up.
+        must_cases Refused P _ _ _ (stop _) (λ mine.
+        must_cases Refused P _ _ _ (stop _) (λ phase.
+        must_cases Refused P _ _ _ (stop _) (λ up.
         way mine (ballots v phase) (omega (arith, ltb-true)))))
 
     pub write_cases : (off d : ℕ) → (1 ≤ v.phase → P (Accepted (writing v d) Done)) → P (ruling (write_rule off v d))
     unfolding write_rule
     write_cases off d way =
-        must-cases Refused P _ _ _ (stop _) (λ phase.
-        must-cases Refused P _ _ _ (stop _) (λ on.
+        must_cases Refused P _ _ _ (stop _) (λ phase.
+        must_cases Refused P _ _ _ (stop _) (λ on.
         way (joins v phase)))
 
     pub read_cases : (servers off : ℕ) (b : Block) (p d q : ℕ)
@@ -101,9 +101,9 @@ module _ (P : Ruling → Type 0) where
         → P (ruling (read_rule servers off v b p d q))
     unfolding read_rule
     read_cases servers off b p d q way outbid learn =
-        must-cases Refused P _ _ _ (stop _) (λ phase.
-        must-cases Refused P _ _ _ (stop _) (λ on.
-        must-cases Refused P _ _ _ (stop _) (λ here.
+        must_cases Refused P _ _ _ (stop _) (λ phase.
+        must_cases Refused P _ _ _ (stop _) (λ on.
+        must_cases Refused P _ _ _ (stop _) (λ here.
         either-cases P _ _ _
         (λ some. learn (ballots v phase) (eqb-false b.done 0 (not-true (eqb b.done 0) some)))
         (λ none.
@@ -122,11 +122,11 @@ module _ (P : Ruling → Type 0) where
         → P (ruling (finish_rule servers drives v p))
     unfolding finish_rule
     finish_cases servers drives p choose commit =
-        must-cases Refused P _ _ _ (stop _) (λ phase.
-        must-cases Refused P _ _ _ (stop _) (λ most.
+        must_cases Refused P _ _ _ (stop _) (λ phase.
+        must_cases Refused P _ _ _ (stop _) (λ most.
         either-cases P _ _ _
         (λ one.
-        must-cases Refused P _ _ _ (stop _) (λ some.
+        must_cases Refused P _ _ _ (stop _) (λ some.
         choose (eqb-true v.phase 1 one) most (eqb-false (command_of v) 0 (not-true (eqb (command_of v) 0) some))))
         (λ other.
         let two = ballots v phase in
