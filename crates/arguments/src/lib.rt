@@ -1,4 +1,6 @@
 // Whether the numbers of a step fit the room: refusals 4 and 5.
+#![tactic(auto)]
+
 ghost use Rattle.std.specs.Prelude.{◌≡◌};
 ghost use Rattle.synod.specs.Arguments.{in_room, places_fit, command_fits};
 
@@ -6,6 +8,7 @@ use command::is_command;
 use state::{Sizes, Step};
 
 // Every place that the step names is in the room.
+#[tactic(auto, unfolding(synod::specs::Arguments::places_fit))]
 pub fn places_fit(z: Sizes, step: Step) -> bool
     ensures { result ≡ places_fit z step }
 {
@@ -35,6 +38,7 @@ fn in_room(z: Sizes, server: u8, slot: u8) -> bool
 }
 
 // The command that the step offers, if it offers one, is a command by the limits given.
+#[tactic(auto, unfolding(synod::specs::Arguments::command_fits))]
 pub fn command_fits(limits: &[u32; 8], step: Step) -> bool
     ensures { result ≡ command_fits limits.now step }
 {

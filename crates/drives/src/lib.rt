@@ -1,4 +1,6 @@
 // The read marks, and which drives count for Rejoin and Finish, gathered as marks in a cell.
+#![tactic(auto)]
+
 ghost use Rattle.std.specs.Prelude.{◌≡◌, ◌≤◌};
 ghost use Rattle.quorum.specs.Sets.{gathered};
 ghost use Rattle.synod.specs.Changes.{read_bit};
@@ -47,6 +49,7 @@ pub fn complete(servers: u32, v: Server, p: u8, drives: u32) -> u32
     found
 }
 
+#[tactic(auto, using(quorum::proofs::AllBelow::loop_goes_on))]
 fn others_read(servers: u32, v: Server, p: u8, d: u32) -> bool
     requires { (servers ≤ 4) × (d ≤ 7) }
     ensures { result ≡ others_read servers v p d }

@@ -10,7 +10,7 @@ use borrow.Author.Tests.{lt-ltb, ltb-true, ltb-false, eqb-true, eqb-false}
 use Rattle.lemmas.proofs.Tests.{by_test, clash}
 use Rattle.checks.specs.Checks.{must}
 use Rattle.checks.specs.Refusals.{Refusal, refusals_of, numbers_of, rises, lowest}
-use Rattle.checks.proofs.LowestLaws.{first_applies, least-applies}
+use Rattle.checks.proofs.LowestLaws.{first_applies, least_applies}
 use Rattle.layout.specs.Cells.{sizes_of}
 use Rattle.range.specs.Range.{in_range}
 use Rattle.free_slots.specs.declared.asking.Asking.{Asking}
@@ -77,18 +77,18 @@ module _ (cells : List ℕ) (p : ℕ) where
   unfolding asked ask_checks must
   asked_4 a b = simp (a, b)
 
-  pub asked-17
+  pub asked_17
       : in_range cells ≡ true → ltb p (sizes_of cells).servers ≡ true
       → ltb (lowest_free (sizes_of cells) cells p) (sizes_of cells).slots ≡ false → asked cells p ≡ Refused 17
   unfolding asked ask_checks must
-  asked-17 a b c = simp (a, b, c)
+  asked_17 a b c = simp (a, b, c)
 
-  pub asked-slot
+  pub asked_slot
       : in_range cells ≡ true → ltb p (sizes_of cells).servers ≡ true
       → ltb (lowest_free (sizes_of cells) cells p) (sizes_of cells).slots ≡ true
       → asked cells p ≡ Free (lowest_free (sizes_of cells) cells p)
   unfolding asked ask_checks must
-  asked-slot a b c = simp (a, b, c)
+  asked_slot a b c = simp (a, b, c)
 
   -- the answer, by cases: no refusal has the number 0
   abbrev Says : Asking → Type 0
@@ -108,7 +108,7 @@ module _ (cells : List ℕ) (p : ℕ) where
       by_test (ltb s (sizes_of cells).slots)
       (λ c.
       let l = ltb-true s (sizes_of cells).slots c in
-      subst Says (sym (asked-slot a b c))
+      subst Says (sym (asked_slot a b c))
       (record {
         range = a;
         server = ltb-true p (sizes_of cells).servers b;
@@ -116,7 +116,7 @@ module _ (cells : List ℕ) (p : ℕ) where
         free = is_first.here (omega arith);
         lower = λ t h. is_first.lower t (omega arith) h;
       }))
-      (λ c. subst Says (sym (asked-17 a b c)) (omega arith, λ e. says_17 (ltb-false s (sizes_of cells).slots c))))
+      (λ c. subst Says (sym (asked_17 a b c)) (omega arith, λ e. says_17 (ltb-false s (sizes_of cells).slots c))))
       (λ b. subst Says (sym (asked_4 a b)) (omega arith, λ e. absurd (omega arith))))
       (λ a. subst Says (sym (asked_3 a)) (omega arith, λ e. absurd (omega arith)))
 
@@ -143,7 +143,7 @@ module _ (cells : List ℕ) (p : ℕ) where
       (λ c.
       let l = ltb-true s (sizes_of cells).slots c in
       clash (free s) (is_first.here (omega arith)) (none s l))
-      (λ c. ap ask_refusal (asked-17 a (lt-ltb p (sizes_of cells).servers h) c))
+      (λ c. ap ask_refusal (asked_17 a (lt-ltb p (sizes_of cells).servers h) c))
 
   -- the numbers of the checks, in their order
   pub ask_numbers : numbers_of (refusals_of (ask_checks cells p)) ≡ 3 ∷ 4 ∷ 17 ∷ []
@@ -159,4 +159,4 @@ module _ (cells : List ℕ) (p : ℕ) where
   pub ask_least
       : (r : Refusal) → Memᴰ r (refusals_of (ask_checks cells p)) → r.applies ≡ true → ask_refusal (asked cells p) ≤ r.number
   unfolding asked ask_checks numbers_of rises
-  ask_least = least-applies Refused ask_refusal (λ n. refl) (ask_checks cells p) refl refl
+  ask_least = least_applies Refused ask_refusal (λ n. refl) (ask_checks cells p) refl refl

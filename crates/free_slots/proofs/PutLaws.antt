@@ -11,8 +11,8 @@ use borrow.Author.Tests.{lt-ltb, ltb-true}
 use Rattle.lemmas.proofs.Tests.{by_test, and_intro, and_left, and_right}
 use Rattle.checks.specs.Checks.{must}
 use Rattle.checks.specs.Refusals.{Refusal, refusals_of, numbers_of, rises, lowest}
-use Rattle.checks.proofs.CheckLaws.{must-cases}
-use Rattle.checks.proofs.LowestLaws.{first_applies, least-applies}
+use Rattle.checks.proofs.CheckLaws.{must_cases}
+use Rattle.checks.proofs.LowestLaws.{first_applies, least_applies}
 use Rattle.command.specs.Command.{is_command}
 use Rattle.state.specs.declared.Answer.{Answer}
 use Rattle.state.specs.declared.Answer.TheVariants as answer
@@ -55,41 +55,41 @@ module _ (r : List ℕ) (p s v : ℕ) where
       unfolding put_rule must
       put_16 d = simp (a, b, c, d)
 
-      pub put-passed
+      pub put_passed
           : free_at (sizes_of r) r p s ≡ true → ruling (put_rule r p s v) ≡ ruling (offer_rule (server_of (sizes_of r) r s p) v)
       unfolding put_rule must
-      put-passed d = simp (a, b, c, d)
+      put_passed d = simp (a, b, c, d)
 
   -- what holds of every refusal, and of the rule of Offer where the checks pass, holds of the ruling
-  pub by-rule {ℓ}
+  pub by_rule {ℓ}
       : (P : Ruling → Type ℓ) → ((n : ℕ) → 1 ≤ n → P (said.Refused n))
       → (in_range r ≡ true → in_room (sizes_of r) p s ≡ true → is_command (limits_of r) v ≡ true
       → free_at (sizes_of r) r p s ≡ true → P (ruling (offer_rule (server_of (sizes_of r) r s p) v)))
       → P (ruling (put_rule r p s v))
   unfolding put_rule
-  by-rule P stop way =
-      must-cases said.Refused P _ 3 _ (stop 3 (omega arith))
+  by_rule P stop way =
+      must_cases said.Refused P _ 3 _ (stop 3 (omega arith))
       (λ a.
-      must-cases said.Refused P _ 4 _ (stop 4 (omega arith))
+      must_cases said.Refused P _ 4 _ (stop 4 (omega arith))
       (λ b.
-      must-cases said.Refused P _ 5 _ (stop 5 (omega arith))
+      must_cases said.Refused P _ 5 _ (stop 5 (omega arith))
       (λ c.
-      must-cases said.Refused P _ 16 _ (stop 16 (omega arith)) (way a b c))))
+      must_cases said.Refused P _ 16 _ (stop 16 (omega arith)) (way a b c))))
 
   -- the same of the effects
-  pub by-put {ℓ}
+  pub by_put {ℓ}
       : (P : Effect → Type ℓ) → ((n : ℕ) → 1 ≤ n → P (Refused n))
       → (in_range r ≡ true → in_room (sizes_of r) p s ≡ true → is_command (limits_of r) v ≡ true
       → free_at (sizes_of r) r p s ≡ true → P (effect_of (sizes_of r) r (Offer p s v)))
       → P (put_judged r p s v)
   unfolding put_judged effect_of rule_of
-  by-put P stop way = by-rule (λ x. P (recording s p x)) stop way
+  by_put P stop way = by_rule (λ x. P (recording s p x)) stop way
 
   -- what a Put is to store has its place in the room
   pub put_ready : Ready r (put_judged r p s v)
   unfolding effect_of rule_of offer_rule
   put_ready =
-      by-put (Ready r) (λ n h. tt)
+      by_put (Ready r) (λ n h. tt)
       (λ a b c d.
       record {
         row = (range_says r a).row;
@@ -117,23 +117,23 @@ module _ (r : List ℕ) (p s v : ℕ) where
   put_lowest = first_applies said.Refused refusal (λ n. refl) (put_rule r p s v) refl
 
   -- and no lower one applies
-  pub put-least
+  pub put_least
       : (x : Refusal) → Memᴰ x (refusals_of (put_rule r p s v)) → x.applies ≡ true → step_refusal (put_answered r p s v) ≤ x.number
   unfolding put_answered put_judged put_rule offer_rule numbers_of rises
-  put-least = least-applies said.Refused refusal (λ n. refl) (put_rule r p s v) refl refl
+  put_least = least_applies said.Refused refusal (λ n. refl) (put_rule r p s v) refl refl
 
   -- a refusal leaves every cell as it was
   pub put_leaves : (step_refusal (put_answered r p s v) ≡ 0 → ⊥) → put_cells r p s v ≡ r
   unfolding put_answered put_cells settled
   put_leaves =
-      by-put (λ (e : Effect). (step_refusal (answer_of e) ≡ 0 → ⊥) → settled (sizes_of r) r e ≡ r) (λ n h k. refl)
+      by_put (λ (e : Effect). (step_refusal (answer_of e) ≡ 0 → ⊥) → settled (sizes_of r) r e ≡ r) (λ n h k. refl)
       (λ a b c d k. absurd (k (ap step_refusal offer_done)))
 
   -- where a Put is not refused, it is judged as the Offer, and so does what that does
   judged_alike : step_refusal (put_answered r p s v) ≡ 0 → put_judged r p s v ≡ judged r (Offer p s v)
   unfolding put_answered places_fit command_fits
   judged_alike =
-      by-put (λ (e : Effect). step_refusal (answer_of e) ≡ 0 → e ≡ judged r (Offer p s v))
+      by_put (λ (e : Effect). step_refusal (answer_of e) ≡ 0 → e ≡ judged r (Offer p s v))
       (λ n h k. absurd (omega arith))
       (λ a b c d k. sym (passed r (Offer p s v) a b c))
 
@@ -149,7 +149,7 @@ module _ (r : List ℕ) (p s v : ℕ) where
       let places = and_intro _ _ (lt-ltb p (sizes_of r).servers n.server) (lt-ltb s (sizes_of r).slots n.slot) in
       let said-by : Ruling → Answer = λ x. answer_of (recording s p x) in
       let done : is_command (limits_of r) v ≡ true → put_answered r p s v ≡ answer.Done =
-      λ c. ap said-by (put-passed n.range places c n.free) in
+      λ c. ap said-by (put_passed n.range places c n.free) in
       let five : is_command (limits_of r) v ≡ false → put_answered r p s v ≡ answer.Refused 5 =
       λ c. ap said-by (put_5 n.range places c) in
       record {

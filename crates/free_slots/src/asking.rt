@@ -6,7 +6,7 @@ ghost use Rattle.free_slots.specs.Ask.{lowest_free, asked};
 use state::Sizes;
 
 // What ask answers: the slot, or the number of the refusal.
-#[derive(Drop)]
+#[derive(Clone, Copy)]
 pub enum Asking {
     Free(u32),
     Refused(u32),
@@ -14,6 +14,7 @@ pub enum Asking {
 
 // The lowest slot that is free for the server; no cell changes. Refused with 3 where the row is no room in range, with 4
 // where the server is beyond the room, and with 17 where no slot is free for it.
+#[tactic(auto, using(room::proofs::Ranged::ranged_head, room::proofs::Ranged::ranged_row), unfolding(checks::specs::Checks::must, crate::specs::Ask::asked, crate::specs::Ask::ask_checks))]
 pub fn ask(room: &[u32], server: u32) -> Asking
     ensures { result ≡ asked room.now server }
 {
@@ -32,6 +33,7 @@ pub fn ask(room: &[u32], server: u32) -> Asking
 }
 
 // The lowest slot that is free for server p; the number of slots where none is.
+#[tactic(auto, using(crate::proofs::AskLaws::first_none, crate::proofs::AskLaws::first_here, crate::proofs::AskLaws::first_later), unfolding(crate::specs::Ask::lowest_free, crate::specs::Ask::free_at))]
 fn lowest_free(room: &[u32], z: Sizes, p: u8) -> u32
     requires { Row z room.now × (p < z.servers) }
     ensures { result ≡ lowest_free z room.now p }

@@ -9,6 +9,7 @@ use synod::Ruling;
 // Offers the command, as the step Offer does, where the slot is free for the server. Refused with 3 where the row is no room
 // in range, with 4 where the server or the slot is beyond the room, with 5 where the number is no command, and with 16 where
 // the slot is not free; then no cell changes.
+#[tactic(auto, unfolding(crate::specs::Put::put_answered, crate::specs::Put::put_cells, crate::specs::Put::put_judged, room::specs::Step::settled))]
 pub fn put(room: &mut [u32], server: u32, slot: u32, command: u32) -> Answer
     ensures { (result ≡ put_answered room.old server slot command)
         × (room.new ≡ put_cells room.old server slot command) }
@@ -24,6 +25,7 @@ pub fn put(room: &mut [u32], server: u32, slot: u32, command: u32) -> Answer
 }
 
 // The checks of a Put, then the rule of Offer. Nothing is stored.
+#[tactic(auto, using(room::proofs::Ranged::ranged_head, room::proofs::Ranged::ranged_row), unfolding(checks::specs::Checks::must, crate::specs::Put::put_rule, crate::specs::Ask::free_at))]
 fn judge_put(room: &[u32], server: u32, slot: u32, command: u32) -> Ruling
     ensures { result ≡ ruling (put_rule room.now server slot command) }
 {

@@ -104,11 +104,11 @@ module _ (z : Sizes) (fit : Fit z) where
       omega (arith, mul-le-mul_right (slot_length z) k)
 
   -- the parts of slot s, in the code's own terms: l is the slot's length and n the room's
-  pub slot-within
+  pub slot_within
       : (s l n : ℕ) → l ≡ slot_length z → s < z.slots → n ≡ room_length z
       → base + s * l + server_length * z.servers + block_length * (z.drives * z.servers) ≤ n
   unfolding slot_length room_length
-  slot-within s l n e h r =
+  slot_within s l n e h r =
       let m : s * l ≡ s * slot_length z = ap (λ (x : ℕ). s * x) e in
       omega (arith, slots_within s h)
 
@@ -198,11 +198,11 @@ module _ (z : Sizes) (fit : Fit z) where
       (λ b. inl (across z fit s t o n u b l))
       (λ b. inr (across z fit t s u m o b k))
 
-  pub servers-apart
+  pub servers_apart
       : (s p t q : ℕ) → p < z.servers → q < z.servers → (s ≡ t → p ≡ q → ⊥)
       → Apart (server_at z s p) server_length (server_at z t q) server_length
   unfolding server_at Apart
-  servers-apart s p t q l k h = go (native.Mathlib.Decide.ℕ_discrete s t)
+  servers_apart s p t q l k h = go (native.Mathlib.Decide.ℕ_discrete s t)
     where
       go : Dec (s ≡ t) → Apart (slot_at z s + server_length * p) server_length (slot_at z t + server_length * q) server_length
       go (yes e) =
@@ -212,11 +212,11 @@ module _ (z : Sizes) (fit : Fit z) where
           slots_apart s t (server_length * p) server_length (server_length * q) server_length e
           (record_in_slot z fit p l) (record_in_slot z fit q k)
 
-  pub nths-apart
+  pub nths_apart
       : (s k t j : ℕ) → k < z.drives * z.servers → j < z.drives * z.servers → (s ≡ t → k ≡ j → ⊥)
       → Apart (nth_block_at z s k) block_length (nth_block_at z t j) block_length
   unfolding nth_block_at Apart
-  nths-apart s k t j l m h = go (native.Mathlib.Decide.ℕ_discrete s t)
+  nths_apart s k t j l m h = go (native.Mathlib.Decide.ℕ_discrete s t)
     where
       front : ℕ
       front = server_length * z.servers
@@ -235,11 +235,11 @@ module _ (z : Sizes) (fit : Fit z) where
           (slots_apart s t (front + block_length * k) block_length (front + block_length * j) block_length e
           (block_in_slot z fit k l) (block_in_slot z fit j m))
 
-  pub server-nth-apart
+  pub server_nth_apart
       : (s p t k : ℕ) → p < z.servers → k < z.drives * z.servers
       → Apart (server_at z s p) server_length (nth_block_at z t k) block_length
   unfolding server_at nth_block_at Apart
-  server-nth-apart s p t k l m = go (native.Mathlib.Decide.ℕ_discrete s t)
+  server_nth_apart s p t k l m = go (native.Mathlib.Decide.ℕ_discrete s t)
     where
       front : ℕ
       front = server_length * z.servers

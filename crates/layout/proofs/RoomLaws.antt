@@ -13,7 +13,7 @@ use Rattle.state.specs.declared.Server.{Server}
 use Rattle.state.specs.declared.Sizes.{Sizes}
 use Rattle.layout.specs.Places.{base, server_length, block_length, server_at, nth_block_at, block_at, Row}
 use Rattle.layout.specs.Cells.{put, sizes_of, off_of, off_at, server_cells, block_in, block_cells, server_of, put_server, block_of, put_block}
-use Rattle.layout.proofs.PlaceLaws.{Apart, server_within, block_within, nth_of, servers-apart, nths-apart, server-nth-apart, base_server, base_nth}
+use Rattle.layout.proofs.PlaceLaws.{Apart, server_within, block_within, nth_of, servers_apart, nths_apart, server_nth_apart, base_server, base_nth}
 use Rattle.layout.proofs.CellLaws.{Same, put-length, put_outside, server_same, block_same, apart_same, put_server_lem, put_block_lem}
 
 -- what is apart one way is apart the other way
@@ -56,30 +56,30 @@ module _ (z : Sizes) (r : List ℕ) (row : Row z r) where
     server_after_server h l =
         put_server_lem r (server_at z s p) v (let e = row.exact in omega (arith, server_within z row.fit s p h l))
 
-    pub other-server-after-server
+    pub other_server_after_server
         : (t q : ℕ) → p < z.servers → q < z.servers → (s ≡ t → p ≡ q → ⊥)
         → server_of z (put_server z r s p v) t q ≡ server_of z r t q
     unfolding put_server server_of
-    other-server-after-server t q l k h =
+    other_server_after_server t q l k h =
         server_same (put r (server_at z s p) (server_cells v)) r (server_at z t q)
         (apart_same r (server_at z s p) (server_cells v) (server_at z t q) server_length
-        (servers-apart z row.fit s p t q l k h))
+        (servers_apart z row.fit s p t q l k h))
 
-    pub nth-after-server
+    pub nth_after_server
         : (t k : ℕ) → p < z.servers → k < z.drives * z.servers
         → block_in (put_server z r s p v) (nth_block_at z t k) ≡ block_in r (nth_block_at z t k)
     unfolding put_server
-    nth-after-server t k l m =
+    nth_after_server t k l m =
         block_same (put r (server_at z s p) (server_cells v)) r (nth_block_at z t k)
         (apart_same r (server_at z s p) (server_cells v) (nth_block_at z t k) block_length
-        (server-nth-apart z row.fit s p t k l m))
+        (server_nth_apart z row.fit s p t k l m))
 
-    pub block-after-server
+    pub block_after_server
         : (t d q : ℕ) → p < z.servers → d < z.drives → q < z.servers
         → block_of z (put_server z r s p v) t d q ≡ block_of z r t d q
     unfolding block_of block_at
-    block-after-server t d q l k m =
-        nth-after-server t (d * z.servers + q) l (nth_of z row.fit d q k m)
+    block_after_server t d q l k m =
+        nth_after_server t (d * z.servers + q) l (nth_of z row.fit d q k m)
 
   module _ (s d p : ℕ) (b : Block) where
     pub block_length_lem : length (put_block z r s d p b) ≡ length r
@@ -104,36 +104,36 @@ module _ (z : Sizes) (r : List ℕ) (row : Row z r) where
     block_after_block h l k =
         put_block_lem r (block_at z s d p) b (let e = row.exact in omega (arith, block_within z row.fit s d p h l k))
 
-    pub other-nth-after-block
+    pub other_nth_after_block
         : (t j : ℕ) → d < z.drives → p < z.servers → j < z.drives * z.servers → (s ≡ t → d * z.servers + p ≡ j → ⊥)
         → block_in (put_block z r s d p b) (nth_block_at z t j) ≡ block_in r (nth_block_at z t j)
     unfolding put_block block_at
-    other-nth-after-block t j l k m h =
+    other_nth_after_block t j l k m h =
         block_same (put r (nth_block_at z s (d * z.servers + p)) (block_cells b)) r (nth_block_at z t j)
         (apart_same r (nth_block_at z s (d * z.servers + p)) (block_cells b) (nth_block_at z t j) block_length
-        (nths-apart z row.fit s (d * z.servers + p) t j (nth_of z row.fit d p l k) m h))
+        (nths_apart z row.fit s (d * z.servers + p) t j (nth_of z row.fit d p l k) m h))
 
     -- a drive and a server are told by the place of their block
-    pub other-block-after-block
+    pub other_block_after_block
         : (t e q : ℕ) → d < z.drives → p < z.servers → e < z.drives → q < z.servers → (s ≡ t → d ≡ e → p ≡ q → ⊥)
         → block_of z (put_block z r s d p b) t e q ≡ block_of z r t e q
     unfolding block_of block_at
-    other-block-after-block t e q l k m n h =
-        other-nth-after-block t (e * z.servers + q) l k (nth_of z row.fit e q m n)
+    other_block_after_block t e q l k m n h =
+        other_nth_after_block t (e * z.servers + q) l k (nth_of z row.fit e q m n)
         (λ u w.
         h u
         (sym (digits_div d k) ∙ ap (λ (x : ℕ). x / z.servers) w ∙ digits_div e n)
         (sym (digits_mod d k) ∙ ap (λ (x : ℕ). x % z.servers) w ∙ digits_mod e n))
 
-    pub server-after-block
+    pub server_after_block
         : (t q : ℕ) → q < z.servers → d < z.drives → p < z.servers
         → server_of z (put_block z r s d p b) t q ≡ server_of z r t q
     unfolding put_block server_of block_at
-    server-after-block t q l k m =
+    server_after_block t q l k m =
         server_same (put r (nth_block_at z s (d * z.servers + p)) (block_cells b)) r (server_at z t q)
         (apart_same r (nth_block_at z s (d * z.servers + p)) (block_cells b) (server_at z t q) server_length
         (turned (server_at z t q) server_length (nth_block_at z s (d * z.servers + p)) block_length
-        (server-nth-apart z row.fit t q s (d * z.servers + p) l (nth_of z row.fit d p k m))))
+        (server_nth_apart z row.fit t q s (d * z.servers + p) l (nth_of z row.fit d p k m))))
 
   module _ (m : ℕ) where
     pub off_row : Row z (set r off_at m)

@@ -1,4 +1,6 @@
 // The cells of a room: where each part stands, and how records and blocks are read and stored.
+#![tactic(auto)]
+
 ghost use Rattle.std.specs.Prelude.{◌≡◌, ◌+◌, ◌<◌, ◌≤◌, length, replicate};
 ghost use Rattle.layout.specs.Places.{base, server_length, block_length, Fit, Row, longest_room, sizes_fit, slot_length, room_length, length_of, server_at, block_at, has_server, server_place, block_place};
 ghost use Rattle.layout.specs.Cells.{sizes_of, limits_of, server_in, block_in, server_of, block_of, put_server, put_block};
@@ -19,6 +21,7 @@ pub const BLOCK_CELLS: usize = 4;
 pub const LONGEST_ROOM: usize = BASE + 16 * (SERVER_CELLS * 4 + BLOCK_CELLS * 28);
 
 // Whether the sizes are those of a room.
+#[tactic(auto, unfolding(crate::specs::Places::sizes_fit))]
 pub fn sizes_fit(z: Sizes) -> bool
     ensures { result ≡ sizes_fit z }
 {
@@ -49,6 +52,7 @@ pub fn limits(room: &[u32]) -> [u32; 8]
     command::limits()
 }
 
+#[tactic(auto, using(crate::proofs::PlaceLaws::blocks_bound), unfolding(crate::specs::Places::slot_length))]
 pub fn slot_length(z: Sizes) -> usize
     requires { Fit z }
     ensures { result ≡ slot_length z }
@@ -64,6 +68,7 @@ pub fn room_length(z: Sizes) -> usize
 }
 
 // The cells of a room of these sizes, and 0 where they do not fit.
+#[tactic(auto, using(crate::proofs::PlaceLaws::fit_of, crate::proofs::PlaceLaws::room_bound))]
 pub fn length_of(z: Sizes) -> usize
     ensures { (result ≡ length_of z) × (result ≤ longest_room) }
 {
@@ -98,6 +103,7 @@ fn has_server(z: Sizes, server: u32, slot: u32) -> bool
 }
 
 // The first cell of the record of a server in a slot, and 0 where a room of these sizes has no such place.
+#[tactic(auto, using(crate::proofs::PlaceLaws::has_server_lem, crate::proofs::PlaceLaws::server_within, crate::proofs::PlaceLaws::room_bound))]
 pub fn server_place(z: Sizes, server: u32, slot: u32) -> usize
     ensures { (result ≡ server_place z server slot) × (result ≤ longest_room) }
 {
@@ -108,6 +114,7 @@ pub fn server_place(z: Sizes, server: u32, slot: u32) -> usize
 }
 
 // The first cell of the server's block on a drive there, and 0 likewise.
+#[tactic(auto, using(crate::proofs::PlaceLaws::has_server_lem, crate::proofs::PlaceLaws::block_within, crate::proofs::PlaceLaws::room_bound))]
 pub fn block_place(z: Sizes, server: u32, slot: u32, drive: u32) -> usize
     ensures { (result ≡ block_place z server slot drive) × (result ≤ longest_room) }
 {
@@ -151,6 +158,7 @@ pub fn block_in(room: &[u32], at: usize) -> Block
 }
 
 // The record of server p in slot s.
+#[tactic(auto, using(crate::proofs::PlaceLaws::server_inside), unfolding(crate::specs::Cells::server_of))]
 pub fn server(room: &[u32], z: Sizes, s: u8, p: u8) -> Server
     requires { Row z room.now × (s < z.slots) × (p < z.servers) }
     ensures { result ≡ server_of z room.now s p }
@@ -159,6 +167,7 @@ pub fn server(room: &[u32], z: Sizes, s: u8, p: u8) -> Server
 }
 
 // Server p's block on drive d in slot s.
+#[tactic(auto, using(crate::proofs::PlaceLaws::block_inside), unfolding(crate::specs::Cells::block_of))]
 pub fn block(room: &[u32], z: Sizes, s: u8, d: u8, p: u8) -> Block
     requires { Row z room.now × (s < z.slots) × (d < z.drives) × (p < z.servers) }
     ensures { result ≡ block_of z room.now s d p }
@@ -167,6 +176,7 @@ pub fn block(room: &[u32], z: Sizes, s: u8, d: u8, p: u8) -> Block
 }
 
 // Stores the record of server p in slot s.
+#[tactic(auto, unfolding(crate::specs::Cells::put_server))]
 pub fn store_server(room: &mut [u32], z: Sizes, s: u8, p: u8, v: Server)
     requires { Row z room.old × (s < z.slots) × (p < z.servers) }
     ensures { room.new ≡ put_server z room.old s p v }
@@ -186,6 +196,7 @@ pub fn store_server(room: &mut [u32], z: Sizes, s: u8, p: u8, v: Server)
 }
 
 // Stores server p's block on drive d in slot s.
+#[tactic(auto, unfolding(crate::specs::Cells::put_block))]
 pub fn store_block(room: &mut [u32], z: Sizes, s: u8, d: u8, p: u8, b: Block)
     requires { Row z room.old × (s < z.slots) × (d < z.drives) × (p < z.servers) }
     ensures { room.new ≡ put_block z room.old s d p b }

@@ -40,11 +40,11 @@ module _ (limits : List ℕ) (z : Sizes) (r : List ℕ) where
   unfolding cells_fit
   no_off e = simp (e, and-false)
 
-  pub then-slots
+  pub then_slots
       : (x : Bool) → sizes_fit z ≡ true → eqb (length r) (room_length z) ≡ true → within (off_of r) (legal_drives z) ≡ true
       → x ≡ all_below z.slots (slot_fits (value_fits limits) z r) → x ≡ cells_fit limits z r
   unfolding cells_fit
-  then-slots x a b c e =
+  then_slots x a b c e =
       goes_on (sizes_fit z && eqb (length r) (room_length z) && within (off_of r) (legal_drives z))
       (all_below z.slots (slot_fits (value_fits limits) z r)) x
       (and_intro (sizes_fit z && eqb (length r) (room_length z)) (within (off_of r) (legal_drives z))
@@ -93,7 +93,7 @@ pub say_cells : (limits : List ℕ) (z : Sizes) (r : List ℕ) → InRange limit
 unfolding slot_fits servers_fit blocks_fit
 say_cells limits z r i =
     sym
-    (then-slots limits z r true (of_fit z i.row.fit) (eq-eqb (length r) (room_length z) i.row.exact) i.off
+    (then_slots limits z r true (of_fit z i.row.fit) (eq-eqb (length r) (room_length z) i.row.exact) i.off
     (sym
     (all_intro z.slots (slot_fits (value_fits limits) z r)
     (λ s h.

@@ -90,10 +90,10 @@ module _ (f : ℕ → Bool) (at : ℕ) where
   pub stops_at_third : f (at + block_length * 2) ≡ false → false ≡ all_below 4 (λ k. f (at + block_length * k))
   stops_at_third e = sym (none_left _ _ (none_right (f at && f (at + block_length)) _ e)) ∙ each_of_four f at
 
-  pub ends-with-last
+  pub ends_with_last
       : (x : Bool) → f at ≡ true → f (at + block_length) ≡ true → f (at + block_length * 2) ≡ true → x ≡ f (at + block_length * 3)
       → x ≡ all_below 4 (λ k. f (at + block_length * k))
-  ends-with-last x a b c d = goes_on _ _ _ (and_intro _ _ (and_intro _ _ a b) c) d ∙ each_of_four f at
+  ends_with_last x a b c d = goes_on _ _ _ (and_intro _ _ (and_intro _ _ a b) c) d ∙ each_of_four f at
 
 -- four blocks: the ballots of all, and the values of all
 pub four_apart
@@ -124,11 +124,11 @@ module _ (tops : List ℕ) where
       (λ b h. subst (λ (x : Block). block_fits (value_by tops) x ≡ true) (same_block_lem blank b h) (and_intro _ _ refl (and_intro _ _ (zero_by tops) (zero_by tops)))) e
 
   -- so are four blocks like four that are
-  pub like-four
+  pub like_four
       : (cells : List ℕ) (at others : ℕ) → of_four_beside same_block cells at others ≡ true → blocks_from (value_by tops) cells at 4 ≡ true
       → blocks_from (value_by tops) cells others 4 ≡ true
   unfolding blocks_from
-  like-four cells at others e h =
+  like_four cells at others e h =
       all_intro 4 (λ j. block_fits (value_by tops) (block_in cells (others + block_length * j)))
       (λ j l.
       subst (λ (x : Block). block_fits (value_by tops) x ≡ true)
@@ -153,36 +153,36 @@ module _ (tops : List ℕ) where
 
 -- blocks in a row: in two parts, by fours, and by fours with a rest
 module _ (value : ℕ → Bool) (cells : List ℕ) (first : ℕ) where
-  two-parts
+  two_parts
       : (n m : ℕ)
       → blocks_from value cells first (n + m) ≡ (blocks_from value cells first n && blocks_from value cells (first + block_length * n) m)
   unfolding blocks_from all_below
-  two-parts n zero = simp (add-zero n) (sym (and-true _))
-  two-parts n (suc m) =
+  two_parts n zero = simp (add-zero n) (sym (and-true _))
+  two_parts n (suc m) =
       let here : first + block_length * (n + m) ≡ first + block_length * n + block_length * m = omega arith in
       let block = block_fits value (block_in cells (first + block_length * n + block_length * m)) in
       simp (add-suc n m, here)
-      (ap (λ (t : Bool). t && block) (two-parts n m)
+      (ap (λ (t : Bool). t && block) (two_parts n m)
       ∙ and_assoc (blocks_from value cells first n) (blocks_from value cells (first + block_length * n) m) block)
 
-  by-fours
+  by_fours
       : (n : ℕ)
       → blocks_from value cells first (4 * n) ≡ all_below n (λ q. blocks_from value cells (first + block_length * (4 * q)) 4)
   unfolding blocks_from all_below
-  by-fours zero = refl
-  by-fours (suc n) =
+  by_fours zero = refl
+  by_fours (suc n) =
       let e : 4 * suc n ≡ 4 * n + 4 = omega arith in
-      ap (blocks_from value cells first) e ∙ two-parts (4 * n) 4
-      ∙ ap (λ (t : Bool). t && blocks_from value cells (first + block_length * (4 * n)) 4) (by-fours n)
+      ap (blocks_from value cells first) e ∙ two_parts (4 * n) 4
+      ∙ ap (λ (t : Bool). t && blocks_from value cells (first + block_length * (4 * n)) 4) (by_fours n)
       ∙ sym (all_suc n (λ q. blocks_from value cells (first + block_length * (4 * q)) 4))
 
-  pub fours-and-rest
+  pub fours_and_rest
       : (n : ℕ)
       → blocks_from value cells first n
       ≡ (all_below (n / 4) (λ q. blocks_from value cells (first + block_length * (4 * q)) 4)
       && blocks_from value cells (first + block_length * (4 * (n / 4))) (n % 4))
-  fours-and-rest n =
+  fours_and_rest n =
       let e : n ≡ 4 * (n / 4) + n % 4 = omega arith in
       ap (blocks_from value cells first) e
-      ∙ two-parts (4 * (n / 4)) (n % 4)
-      ∙ ap (λ (t : Bool). t && blocks_from value cells (first + block_length * (4 * (n / 4))) (n % 4)) (by-fours (n / 4))
+      ∙ two_parts (4 * (n / 4)) (n % 4)
+      ∙ ap (λ (t : Bool). t && blocks_from value cells (first + block_length * (4 * (n / 4))) (n % 4)) (by_fours (n / 4))

@@ -1,4 +1,6 @@
 // The range rule: whether a row of cells is a room with every cell in range.
+#![tactic(auto)]
+
 mod fours;
 mod values;
 
@@ -17,7 +19,7 @@ use state::{Block, Server, Sizes};
 use values::{block_fits, own_values_fit};
 
 // The legal marks of drives, and of blocks read: made once for a room.
-#[derive(Drop)]
+#[derive(Clone, Copy)]
 pub struct Masks {
     pub drives: u32,
     pub reads: u32,

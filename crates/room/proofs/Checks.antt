@@ -22,11 +22,11 @@ module _ (r : List ℕ) (st : Step) where
   unfolding judged step_checks must
   refused_4 a b = simp (a, b)
 
-  pub refused-5
+  pub refused_5
       : in_range r ≡ true → places_fit (sizes_of r) st ≡ true → command_fits (limits_of r) st ≡ false
       → judged r st ≡ Refused 5
   unfolding judged step_checks must
-  refused-5 a b c = simp (a, b, c)
+  refused_5 a b c = simp (a, b, c)
 
   pub passed
       : in_range r ≡ true → places_fit (sizes_of r) st ≡ true → command_fits (limits_of r) st ≡ true
@@ -35,7 +35,7 @@ module _ (r : List ℕ) (st : Step) where
   passed a b c = simp (a, b, c)
 
   -- what holds of the three refusals, and of the rule where the checks pass, holds of the judgement
-  pub by-checks {ℓ}
+  pub by_checks {ℓ}
       : (P : Effect → Type ℓ)
       → (in_range r ≡ false → P (Refused 3))
       → (in_range r ≡ true → places_fit (sizes_of r) st ≡ false → P (Refused 4))
@@ -43,13 +43,13 @@ module _ (r : List ℕ) (st : Step) where
       → (in_range r ≡ true → places_fit (sizes_of r) st ≡ true → command_fits (limits_of r) st ≡ true
       → P (effect_of (sizes_of r) r st))
       → P (judged r st)
-  by-checks P three four five rest =
+  by_checks P three four five rest =
       by_test (in_range r)
       (λ a.
       by_test (places_fit (sizes_of r) st)
       (λ b.
       by_test (command_fits (limits_of r) st)
       (λ c. rw (passed a b c) (rest a b c))
-      (λ c. rw (refused-5 a b c) (five a b c)))
+      (λ c. rw (refused_5 a b c) (five a b c)))
       (λ b. rw (refused_4 a b) (four a b)))
       (λ a. rw (refused_3 a) (three a))

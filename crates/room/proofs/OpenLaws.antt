@@ -10,7 +10,7 @@ use borrow.Author.Tests.{eqb-true}
 use Rattle.lemmas.proofs.Tests.{by_test}
 use Rattle.checks.specs.Checks.{must}
 use Rattle.checks.specs.Refusals.{Refusal, refusals_of, numbers_of, rises, lowest}
-use Rattle.checks.proofs.LowestLaws.{first_applies, least-applies}
+use Rattle.checks.proofs.LowestLaws.{first_applies, least_applies}
 use Rattle.state.specs.declared.Sizes.{Sizes}
 use Rattle.layout.specs.Places.{sizes_fit, room_length, Fit}
 use Rattle.layout.proofs.PlaceLaws.{base_room}
@@ -69,10 +69,10 @@ module _ (z : Sizes) (cells : List ℕ) where
   open_lowest = first_applies Refused open_refusal (λ n. refl) (open_checks z cells) refl
 
   -- and no lower one applies
-  pub open-least
+  pub open_least
       : (r : Refusal) → Memᴰ r (refusals_of (open_checks z cells)) → r.applies ≡ true → open_refusal (opening z cells) ≤ r.number
   unfolding opening open_checks numbers_of rises
-  open-least = least-applies Refused open_refusal (λ n. refl) (open_checks z cells) refl refl
+  open_least = least_applies Refused open_refusal (λ n. refl) (open_checks z cells) refl refl
 
   left : (o : Opening) → (open_refusal o ≡ 0 → ⊥) → opened_by z cells o ≡ cells
   left Opened h = absurd (h refl)

@@ -16,7 +16,7 @@ use Rattle.range.proofs.Laws.{range_says}
 use Rattle.room.specs.Judge.{recording, blocking, effect_at, rule_at, effect_of, judged}
 use Rattle.room.specs.Ready.{ReadyAt, Ready}
 use Rattle.synod.proofs.Places.{InView, in_view}
-use Rattle.room.proofs.Checks.{by-checks}
+use Rattle.room.proofs.Checks.{by_checks}
 
 record_ready : (z : Sizes) (r : List ℕ) (s p : ℕ) (x : Ruling) → Row z r → s < z.slots → p < z.servers → ReadyAt z r (recording s p x)
 record_ready z r s p (said.Refused n) row h l = tt
@@ -41,5 +41,5 @@ effect_ready z r row st e = view_ready z r row (view_of st) _ (ruling (rule_at z
 
 pub judged_ready : (r : List ℕ) (st : Step) → Ready r (judged r st)
 judged_ready r st =
-    by-checks r st (Ready r) (λ a. tt) (λ a b. tt) (λ a b c. tt)
+    by_checks r st (Ready r) (λ a. tt) (λ a b. tt) (λ a b c. tt)
     (λ a b c. effect_ready (sizes_of r) r (range_says r a).row st b)

@@ -11,7 +11,7 @@ use synod::Ruling;
 
 // The places and values that an accepted step stores: a server's record, for Write its block too, a server's failure
 // in every slot, or the off marks.
-#[derive(Drop)]
+#[derive(Clone, Copy)]
 pub enum Effect {
     Refused(u32),
     Record {
@@ -58,6 +58,7 @@ impl Effect {
 }
 
 // Judges a step on a row: the room, the step's numbers, then the rule of its kind. Nothing is stored.
+#[tactic(auto, using(crate::proofs::Checks::refused_3, crate::proofs::Checks::refused_4, crate::proofs::Checks::refused_5, crate::proofs::Checks::passed, crate::proofs::Ranged::ranged_head, crate::proofs::Ranged::ranged_row))]
 pub fn judge(room: &[u32], step: Step) -> Effect
     ensures { result ≡ judged room.now step }
 {
@@ -76,6 +77,7 @@ pub fn judge(room: &[u32], step: Step) -> Effect
 }
 
 // The rule of the step's kind, on the record and the block that it names.
+#[tactic(auto, unfolding(crate::specs::Judge::effect_of, synod::specs::Rules::rule_of))]
 fn rule(room: &[u32], z: Sizes, step: Step) -> Effect
     requires { Row z room.now × (places_fit z step ≡ true) }
     ensures { result ≡ effect_of z room.now step }

@@ -6,7 +6,7 @@ ghost use Rattle.room.specs.Open.{opening, opened};
 use state::Sizes;
 
 // What open answers.
-#[derive(Drop)]
+#[derive(Clone, Copy)]
 pub enum Opening {
     Opened,
     Refused(u32),

@@ -10,6 +10,7 @@ use layout::{server, sizes, store_block, store_server};
 use state::{Answer, Sizes, Step};
 
 // Judges the step and stores what it changes. A refusal changes no cell.
+#[tactic(auto, using(crate::proofs::ReadyLaws::judged_ready), unfolding(crate::specs::Step::answered, crate::specs::Step::stepped))]
 pub fn step(room: &mut [u32], step: Step) -> Answer
     ensures { (result ≡ answered room.old step) × (room.new ≡ stepped room.old step) }
 {
@@ -19,6 +20,7 @@ pub fn step(room: &mut [u32], step: Step) -> Answer
 }
 
 // Stores what the effect says.
+#[tactic(auto, using(layout::proofs::PlaceLaws::row_head), unfolding(crate::specs::Step::settled))]
 fn settle(room: &mut [u32], e: Effect)
     requires { Ready room.old e }
     ensures { room.new ≡ settled (sizes_of room.old) room.old e }
@@ -55,6 +57,7 @@ fn settle(room: &mut [u32], e: Effect)
 }
 
 // Server p fails in every slot.
+#[tactic(auto, unfolding(crate::specs::Step::failed_below))]
 fn fail(room: &mut [u32], z: Sizes, p: u8)
     requires { Row z room.old × (p < z.servers) }
     ensures { room.new ≡ failed_below z p z.slots room.old }

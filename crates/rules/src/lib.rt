@@ -1,5 +1,7 @@
 // The rules of the algorithm on values: each takes a server's record, the block it looks at and the step's numbers,
 // and answers a refusal or the record as it becomes, with the answer.
+#![tactic(auto)]
+
 ghost use Rattle.std.specs.Prelude.{◌≡◌, ◌≤◌, max};
 ghost use Rattle.synod.specs.Changes.{meeting, bidding};
 ghost use Rattle.ballot.specs.Ballot.{next_own};
@@ -11,6 +13,7 @@ use state::{Answer, Block, Server};
 use synod::Ruling;
 
 // 1 Offer, in any phase.
+#[tactic(auto, unfolding(synod::specs::Rules::offer_rule))]
 pub fn offer(mut v: Server, command: u32) -> Ruling
     ensures { result ≡ ruling (offer_rule v command) }
 {
@@ -19,6 +22,7 @@ pub fn offer(mut v: Server, command: u32) -> Ruling
 }
 
 // 2 Recall, phase 0: b is server p's own block on drive d.
+#[tactic(auto, unfolding(checks::specs::Checks::must, synod::specs::Rules::recall_rule, synod::specs::Changes::recalling, synod::specs::Changes::topping, synod::specs::Changes::marking))]
 pub fn recall(off: u32, v: Server, b: Block, p: u8, d: u8) -> Ruling
     ensures { result ≡ ruling (recall_rule off v b p d) }
 {
@@ -35,6 +39,7 @@ pub fn recall(off: u32, v: Server, b: Block, p: u8, d: u8) -> Ruling
 }
 
 // 3 Rejoin, phase 0, a majority recalled, the ballot p's and above top.
+#[tactic(auto, using(crate::proofs::Judged::judged), unfolding(checks::specs::Checks::must, synod::specs::Rules::rejoin_rule, synod::specs::Changes::rejoining))]
 pub fn rejoin(servers: u32, drives: u32, v: Server, p: u8, ballot: u32) -> Ruling
     requires { drives ≤ 7 }
     ensures { result ≡ ruling (rejoin_rule servers drives v p ballot) }
@@ -58,6 +63,7 @@ pub fn rejoin(servers: u32, drives: u32, v: Server, p: u8, ballot: u32) -> Rulin
 }
 
 // 4 Bid, phase 1 or 2, the ballot p's and above the own mbal.
+#[tactic(auto, unfolding(checks::specs::Checks::must, synod::specs::Rules::bid_rule))]
 pub fn bid(servers: u32, v: Server, p: u8, ballot: u32) -> Ruling
     ensures { result ≡ ruling (bid_rule servers v p ballot) }
 {
@@ -74,6 +80,7 @@ pub fn bid(servers: u32, v: Server, p: u8, ballot: u32) -> Ruling
 }
 
 // 5 Write, phase 1, 2 or 3. The block to be written is the own block.
+#[tactic(auto, unfolding(checks::specs::Checks::must, synod::specs::Rules::write_rule, synod::specs::Changes::writing))]
 pub fn write(off: u32, v: Server, d: u8) -> Ruling
     ensures { result ≡ ruling (write_rule off v d) }
 {
@@ -90,6 +97,7 @@ pub fn write(off: u32, v: Server, d: u8) -> Ruling
 
 // 6 Read, phase 1 or 2, d written in this phase: b is server q's block on drive d. A done is learned before the ballots
 // are looked at.
+#[tactic(auto, unfolding(checks::specs::Checks::must, synod::specs::Rules::read_rule, synod::specs::Changes::reading, synod::specs::Changes::marking))]
 pub fn read(servers: u32, off: u32, v: Server, b: Block, p: u8, d: u8, q: u8) -> Ruling
     ensures { result ≡ ruling (read_rule servers off v b p d q) }
 {
@@ -117,6 +125,7 @@ pub fn read(servers: u32, off: u32, v: Server, b: Block, p: u8, d: u8, q: u8) ->
 }
 
 // 7 Finish, phase 1 or 2, a majority of drives written with every other server's block read there.
+#[tactic(auto, using(crate::proofs::Judged::judged), unfolding(checks::specs::Checks::must, synod::specs::Rules::finish_rule, synod::specs::Changes::proposing))]
 pub fn finish(servers: u32, drives: u32, v: Server, p: u8) -> Ruling
     requires { (servers ≤ 4) × (drives ≤ 7) }
     ensures { result ≡ ruling (finish_rule servers drives v p) }
@@ -139,6 +148,7 @@ pub fn finish(servers: u32, drives: u32, v: Server, p: u8) -> Ruling
 }
 
 // Phase 3 with the command that the slot is settled with: by the own ballot, or by a done that was read.
+#[tactic(auto, unfolding(synod::specs::Changes::agreeing))]
 fn agree_on(v: Server, command: u32) -> Ruling
     ensures { result ≡ ruling (agree_rule v command) }
 {
@@ -146,6 +156,7 @@ fn agree_on(v: Server, command: u32) -> Ruling
 }
 
 // A block with a ballot that is not below the own one was found.
+#[tactic(auto, unfolding(checks::specs::Checks::must, synod::specs::Rules::outbid_rule))]
 fn outbid(servers: u32, v: Server, p: u8, found: u32) -> Ruling
     ensures { result ≡ ruling (outbid_rule v found (next_own servers p found)) }
 {
@@ -156,6 +167,7 @@ fn outbid(servers: u32, v: Server, p: u8, found: u32) -> Ruling
 }
 
 // Phase 1 of a new ballot.
+#[tactic(auto, unfolding(synod::specs::Changes::bidding))]
 fn restart(v: Server, ballot: u32) -> Server
     ensures { result ≡ bidding v ballot }
 {
@@ -163,6 +175,7 @@ fn restart(v: Server, ballot: u32) -> Server
 }
 
 // A block met in this phase: a larger bal replaces what was seen.
+#[tactic(auto, unfolding(synod::specs::Changes::meeting))]
 fn meet(mut v: Server, b: Block) -> Server
     ensures { result ≡ meeting v b }
 {

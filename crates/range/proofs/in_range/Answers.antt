@@ -1,0 +1,87 @@
+-- `range::in_range` meets its contract: the tests are the rule's, in its order.
+use Prim.Native.Nat.{ℕ}
+use mathlib.Core.Path.{◌≡◌, ◌∙◌, sym, ap}
+use mathlib.Core.Bool.{Bool}
+use mathlib.Core.List.{List}
+use native.Mathlib.Omega.{arith}
+use borrow.Author.Tests.{eq-eqb, ne_eqb}
+use lib.ListN.{length}
+use Rattle.command.specs.Tops.{tops_of, value_by}
+use Rattle.quorum.specs.Sets.{all_below, within}
+use Rattle.state.specs.declared.Sizes.{Sizes}
+use Rattle.layout.specs.Places.{room_length}
+use Rattle.layout.specs.Cells.{off_of}
+use Rattle.layout.proofs.PlaceLaws.{fit_of}
+use Rattle.range.specs.declared.Masks.{Masks}
+use Rattle.range.specs.Range.{legal_drives, masks_of, slot_fits}
+use Rattle.range.proofs.Laws.{short_row, row_of, no_sizes, no_length, no_off, then_slots}
+use Rattle.range.proofs.Together.{by_table}
+use Rattle.range.proofs.in_range.Goals as goal
+
+-- what the test of the off marks has judged: by the masks that the code has
+off : (z : Sizes) (k : Masks) (marks : ℕ) (x : Bool) → k ≡ masks_of z → x ≡ within marks k.drives → x ≡ within marks (legal_drives z)
+off z k marks x e judged = judged ∙ ap (λ (m : Masks). within marks m.drives) e
+
+-- the slots of the row, judged by the table of the limits
+slots
+    : (limits : List ℕ) (z : Sizes) (row tops : List ℕ) (x : Bool) → tops ≡ tops_of limits
+    → x ≡ all_below z.slots (slot_fits (value_by tops) z row)
+    → x ≡ all_below z.slots (slot_fits (value_by (tops_of limits)) z row)
+slots limits z row tops x e judged = judged ∙ ap (λ (t : List ℕ). all_below z.slots (slot_fits (value_by t) z row)) e
+
+pub returns-then-room-lt-BASE : goal.returns-then-room-lt-BASE
+returns-then-room-lt-BASE c = sym (short_row c.args.room.now c.if-room-lt-BASE.true)
+
+pub returns-then-not-sizes_fit : goal.returns-then-not-sizes_fit
+returns-then-not-sizes_fit c =
+    let row = c.args.room.now in
+    let limits = c.limits-limits.result in
+    let z = c.sizes-z.result in
+    sym
+    (row_of limits z row c.limits-limits.ensures c.sizes-z.ensures c.if-room-lt-BASE.false
+    ∙ no_sizes limits z row (sym c.sizes_fit.ensures ∙ c.if-not-sizes_fit.true))
+
+pub room_length-requires : goal.room_length-requires
+room_length-requires c = fit_of c.sizes-z.result (sym c.sizes_fit.ensures ∙ c.if-not-sizes_fit.false)
+
+pub returns-then-room-room_length : goal.returns-then-room-room_length
+returns-then-room-room_length c =
+    let row = c.args.room.now in
+    let limits = c.limits-limits.result in
+    let z = c.sizes-z.result in
+    let other = ne_eqb (length row) (room_length z) (λ e. omega (arith, c.if-room-room_length.true, c.room_length.ensures)) in
+    sym
+    (row_of limits z row c.limits-limits.ensures c.sizes-z.ensures c.if-room-lt-BASE.false
+    ∙ no_length limits z row other)
+
+pub masks_of-k-requires : goal.masks_of-k-requires
+masks_of-k-requires c = fit_of c.sizes-z.result (sym c.sizes_fit.ensures ∙ c.if-not-sizes_fit.false)
+
+pub returns-then-not-only_legal : goal.returns-then-not-only_legal
+returns-then-not-only_legal c =
+    let row = c.args.room.now in
+    let limits = c.limits-limits.result in
+    let z = c.sizes-z.result in
+    let judged = off z c.masks_of-k.result (off_of row) _ c.masks_of-k.ensures c.only_legal.ensures in
+    sym
+    (row_of limits z row c.limits-limits.ensures c.sizes-z.ensures c.if-room-lt-BASE.false
+    ∙ no_off limits z row (sym judged ∙ c.if-not-only_legal.true))
+
+pub slots_fit-requires : goal.slots_fit-requires
+slots_fit-requires c =
+    let fit = fit_of c.sizes-z.result (sym c.sizes_fit.ensures ∙ c.if-not-sizes_fit.false) in
+    (record { fit = fit; exact = omega (arith, c.if-room-room_length.false, c.room_length.ensures) }, c.masks_of-k.ensures)
+
+pub returns : goal.returns
+returns c =
+    let row = c.args.room.now in
+    let limits = c.limits-limits.result in
+    let z = c.sizes-z.result in
+    let judged = off z c.masks_of-k.result (off_of row) _ c.masks_of-k.ensures c.only_legal.ensures in
+    then_slots limits z row c.slots_fit.result
+    (sym c.sizes_fit.ensures ∙ c.if-not-sizes_fit.false)
+    (eq-eqb _ _ (omega (arith, c.if-room-room_length.false, c.room_length.ensures)))
+    (sym judged ∙ c.if-not-only_legal.false)
+    (slots limits z row _ _ c.tops_of-tops.ensures c.slots_fit.ensures
+    ∙ ap (λ (value : ℕ → Bool). all_below z.slots (slot_fits value z row)) (by_table limits))
+    ∙ sym (row_of limits z row c.limits-limits.ensures c.sizes-z.ensures c.if-room-lt-BASE.false)
