@@ -10,7 +10,7 @@ use lib.Dec.{eqb, ltb}
 use borrow.Author.Tests.{eqb-true, eqb-false, ltb-true, ltb-false}
 use Rattle.lemmas.proofs.Tests.{by_test}
 use Rattle.checks.specs.Refusals.{Refusal, refusals_of, numbers_of, rises, lowest}
-use Rattle.checks.proofs.LowestLaws.{first_applies, least-applies}
+use Rattle.checks.proofs.LowestLaws.{first_applies, least_applies}
 use Rattle.state.specs.declared.Sizes.{Sizes}
 use Rattle.layout.specs.Cells.{sizes_of}
 use Rattle.range.specs.Range.{in_range}
@@ -23,7 +23,7 @@ use Rattle.catalogue.specs.declared.Listing.{Listing}
 use Rattle.catalogue.specs.declared.Listing.TheVariants.{Counted, Refused}
 use Rattle.catalogue.proofs.FoldLaws.{fold_length, fold_skips, fold_bounded, start_bounded}
 use Rattle.catalogue.proofs.OutputLaws.{outputs_first}
-use Rattle.catalogue.proofs.CallLaws.{wrong-length, out_of_range, no-server, accepts}
+use Rattle.catalogue.proofs.CallLaws.{wrong_length, out_of_range, no_server, accepts}
 
 -- the entries of any server
 module _ (z : Sizes) (room : List ℕ) (p : ℕ) where
@@ -58,9 +58,9 @@ module _ (room : List ℕ) (server : ℕ) (out : List ℕ) where
   Says (Counted k n) = Accepted k n
   Says (Refused n) = 1 ≤ n
 
-  is-accepted
+  is_accepted
       : length out ≡ pieces → in_range room ≡ true → server < (sizes_of room).servers → Says (catalogue_of room server out)
-  is-accepted l i h =
+  is_accepted l i h =
       let a = accepts room server out l i h in
       subst Says a.0
       (record {
@@ -82,35 +82,35 @@ module _ (room : List ℕ) (server : ℕ) (out : List ℕ) where
       by_test (in_range room)
       (λ i.
       by_test (ltb server (sizes_of room).servers)
-      (λ h. is-accepted l i (ltb-true server (sizes_of room).servers h))
-      (λ h. subst Says (no-server room server out l i (ltb-false server (sizes_of room).servers h)).0 (omega arith)))
+      (λ h. is_accepted l i (ltb-true server (sizes_of room).servers h))
+      (λ h. subst Says (no_server room server out l i (ltb-false server (sizes_of room).servers h)).0 (omega arith)))
       (λ i. subst Says (out_of_range room server out l i).0 (omega arith)))
-      (λ e. subst Says (wrong-length room server out (eqb-false (length out) pieces e)).0 (omega arith))
+      (λ e. subst Says (wrong_length room server out (eqb-false (length out) pieces e)).0 (omega arith))
 
   is_counted : (l : Listing) → Says l → catalogue_refusal l ≡ 0 → l ≡ Counted (taken_of l) (skipped_of l)
   is_counted (Counted k n) s e = refl
   is_counted (Refused n) s e = absurd (omega arith)
 
   -- so 0 says that the call is accepted
-  pub accepted-is
+  pub accepted_is
       : catalogue_refusal (catalogue_of room server out) ≡ 0
       → catalogue_of room server out ≡ Counted (taken_of (catalogue_of room server out)) (skipped_of (catalogue_of room server out))
-  accepted-is = is_counted (catalogue_of room server out) says
+  accepted_is = is_counted (catalogue_of room server out) says
 
-  pub accepted-says
+  pub accepted_says
       : catalogue_refusal (catalogue_of room server out) ≡ 0
       → Accepted (taken_of (catalogue_of room server out)) (skipped_of (catalogue_of room server out))
-  accepted-says e = subst Says (accepted-is e) says
+  accepted_says e = subst Says (accepted_is e) says
 
   -- an accepted catalogue leaves as many cells as there are pieces
   pub catalogue_length : catalogue_refusal (catalogue_of room server out) ≡ 0 → length (catalogue_cells room server out) ≡ pieces
-  catalogue_length e = ap length (accepted-says e).cells ∙ entries_length (sizes_of room) room server
+  catalogue_length e = ap length (accepted_says e).cells ∙ entries_length (sizes_of room) room server
 
   -- and none is above struck
-  pub catalogue-bounded
+  pub catalogue_bounded
       : catalogue_refusal (catalogue_of room server out) ≡ 0 → (i : ℕ) → get_or (catalogue_cells room server out) i 0 ≤ struck
-  catalogue-bounded e i =
-      subst (λ (cells : List ℕ). get_or cells i 0 ≤ struck) (sym (accepted-says e).cells) (entries_bounded (sizes_of room) room server i)
+  catalogue_bounded e i =
+      subst (λ (cells : List ℕ). get_or cells i 0 ≤ struck) (sym (accepted_says e).cells) (entries_bounded (sizes_of room) room server i)
 
   -- the numbers of the checks, in their order
   pub catalogue_numbers : numbers_of (refusals_of (catalogue_checks room server out)) ≡ 2 ∷ 3 ∷ 4 ∷ []
@@ -123,11 +123,11 @@ module _ (room : List ℕ) (server : ℕ) (out : List ℕ) where
   catalogue_lowest = first_applies Refused catalogue_refusal (λ n. refl) (catalogue_checks room server out) refl
 
   -- and no lower one applies
-  pub catalogue-least
+  pub catalogue_least
       : (r : Refusal) → Memᴰ r (refusals_of (catalogue_checks room server out)) → r.applies ≡ true
       → catalogue_refusal (catalogue_of room server out) ≤ r.number
   unfolding catalogue_of catalogue_checks numbers_of rises
-  catalogue-least = least-applies Refused catalogue_refusal (λ n. refl) (catalogue_checks room server out) refl refl
+  catalogue_least = least_applies Refused catalogue_refusal (λ n. refl) (catalogue_checks room server out) refl refl
 
   left : (l : Listing) (new : List ℕ) → (catalogue_refusal l ≡ 0 → ⊥) → left_by l new out ≡ out
   left (Counted k n) new h = absurd (h refl)

@@ -20,10 +20,10 @@ module _ (cells : List ℕ) (v kind at : ℕ) (k : kind ≡ kind_of v) (i : at �
       let e = sym same_test ∙ h in
       (simp e, simp (e, set-get_or))
 
-  pub set-anew
+  pub set_anew
       : (new : ℕ) → applies kind (get_or cells at 0) ≡ true → new ≡ changed (kind_of v) (hoard_of v)
       → (0 ≡ skipped_by cells v) × (set cells at new ≡ cells_after cells v)
   unfolding skipped_by cells_after entry
-  set-anew new h n =
+  set_anew new h n =
       let e = sym same_test ∙ h in
       (simp e, simp e (ap₂ (λ (x y : ℕ). set cells x y) i n))

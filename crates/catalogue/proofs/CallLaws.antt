@@ -42,37 +42,37 @@ module _ (room : List ℕ) (server : ℕ) (out : List ℕ) where
   unfolding catalogue_cells
   leaves r e = (sym e, ap (λ (a : Listing). left_by a (entries_of (sizes_of room) room server).cells out) (sym e))
 
-  pub wrong-length
+  pub wrong_length
       : (length out ≡ pieces → ⊥)
       → (Refused 2 ≡ catalogue_of room server out) × (out ≡ catalogue_cells room server out)
   unfolding catalogue_of catalogue_checks
-  wrong-length h = leaves (Refused 2) (fails Refused (eqb (length out) pieces) 2 _ (ne_eqb (length out) pieces h))
+  wrong_length h = leaves (Refused 2) (fails Refused (eqb (length out) pieces) 2 _ (ne_eqb (length out) pieces h))
 
   module _ (exact : length out ≡ pieces) where
-    past-length
+    past_length
         : (r : Listing)
         → must Refused (in_range room) 3 (must Refused (ltb server (sizes_of room).servers) 4 (counted (sizes_of room) room server)) ≡ r
         → catalogue_of room server out ≡ r
     unfolding catalogue_of catalogue_checks
-    past-length r e = passes Refused (eqb (length out) pieces) 2 _ (eq-eqb (length out) pieces exact) ∙ e
+    past_length r e = passes Refused (eqb (length out) pieces) 2 _ (eq-eqb (length out) pieces exact) ∙ e
 
     pub out_of_range
         : in_range room ≡ false
         → (Refused 3 ≡ catalogue_of room server out) × (out ≡ catalogue_cells room server out)
-    out_of_range h = leaves (Refused 3) (past-length (Refused 3) (fails Refused (in_range room) 3 _ h))
+    out_of_range h = leaves (Refused 3) (past_length (Refused 3) (fails Refused (in_range room) 3 _ h))
 
     module _ (range : in_range room ≡ true) where
-      past-range
+      past_range
           : (r : Listing) → must Refused (ltb server (sizes_of room).servers) 4 (counted (sizes_of room) room server) ≡ r
           → catalogue_of room server out ≡ r
-      past-range r e = past-length r (passes Refused (in_range room) 3 _ range ∙ e)
+      past_range r e = past_length r (passes Refused (in_range room) 3 _ range ∙ e)
 
-      pub no-server
+      pub no_server
           : (sizes_of room).servers ≤ server
           → (Refused 4 ≡ catalogue_of room server out) × (out ≡ catalogue_cells room server out)
-      no-server h =
+      no_server h =
           leaves (Refused 4)
-          (past-range (Refused 4) (fails Refused (ltb server (sizes_of room).servers) 4 _ (le-ltb server (sizes_of room).servers h)))
+          (past_range (Refused 4) (fails Refused (ltb server (sizes_of room).servers) 4 _ (le-ltb server (sizes_of room).servers h)))
 
       pub accepts
           : server < (sizes_of room).servers
@@ -80,5 +80,5 @@ module _ (room : List ℕ) (server : ℕ) (out : List ℕ) where
           × ((entries_of (sizes_of room) room server).cells ≡ catalogue_cells room server out)
       accepts h =
           leaves (counted (sizes_of room) room server)
-          (past-range (counted (sizes_of room) room server)
+          (past_range (counted (sizes_of room) room server)
           (passes Refused (ltb server (sizes_of room).servers) 4 _ (lt-ltb server (sizes_of room).servers h)))

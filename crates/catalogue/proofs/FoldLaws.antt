@@ -74,10 +74,11 @@ fold_bounded =
     fold_keeps (λ (cell : ℕ). cell ≤ struck)
     (λ v cell h. entry_bounded (kind_of v) (hoard_of v) cell (omega arith) h)
 
-zero_at : (n i : ℕ) → ◌≡◌ {A = ℕ} (get_or (replicate n 0) i 0) 0
-zero_at zero i = refl
-zero_at (suc n) zero = refl
-zero_at (suc n) (suc i) = zero_at n i
+-- as many times v is bounded as v is
+same_bounded : (n v m i : ℕ) → v ≤ m → get_or (replicate n v) i 0 ≤ m
+same_bounded zero v m i h = omega arith
+same_bounded (suc n) v m zero h = h
+same_bounded (suc n) v m (suc i) h = same_bounded n v m i h
 
 pub start_bounded : (i : ℕ) → get_or start.cells i 0 ≤ struck
-start_bounded i = omega (arith, zero_at pieces i)
+start_bounded i = same_bounded pieces _ struck i (omega arith)

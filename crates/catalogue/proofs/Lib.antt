@@ -1,8 +1,9 @@
--- Laws of the catalogue, for the crates above: one command, the fold, struck pieces, the outputs taken, the call's checks,
--- its answers.
+-- Laws of the catalogue, for the crates above: one command, the fold, struck pieces, the outputs taken, the loop over
+-- the slots, the call's checks, its answers.
 pub mod ApplyLaws
 pub mod FoldLaws
 pub mod StruckLaws
 pub mod OutputLaws
+pub mod ListLaws
 pub mod CallLaws
 pub mod AnswerLaws

@@ -10,7 +10,7 @@ use Rattle.lemmas.proofs.Tests.{none_right}
 use Rattle.command.specs.Command.{enter, move, strike, kind_of, piece_of, hoard_of}
 use Rattle.catalogue.specs.Entry.{struck, entered, applies, changed, entry}
 use Rattle.catalogue.specs.Fold.{Entries, cell_of, cells_after, skipped_by, folded}
-use Rattle.catalogue.proofs.ApplyLaws.{left_alone, set-anew}
+use Rattle.catalogue.proofs.ApplyLaws.{left_alone, set_anew}
 use Rattle.catalogue.proofs.FoldLaws.{fold_keeps}
 
 -- no command does anything to a struck cell
@@ -27,12 +27,12 @@ struck_entry kind hoard = ap (λ (b : Bool). cond (not b) struck (changed kind h
 
 module _ (cells : List ℕ) (v : ℕ) where
   -- a strike of an entered piece makes its cell struck, and is not skipped
-  pub strike-strikes
+  pub strike_strikes
       : kind_of v ≡ strike → entered (cell_of cells v) ≡ true
       → (cells_after cells v ≡ set cells (piece_of v) struck) × (skipped_by cells v ≡ 0)
   unfolding applies
-  strike-strikes k e =
-      let a = set-anew cells v strike (piece_of v) (sym k) refl struck e (sym (ap (λ (n : ℕ). changed n (hoard_of v)) k)) in
+  strike_strikes k e =
+      let a = set_anew cells v strike (piece_of v) (sym k) refl struck e (sym (ap (λ (n : ℕ). changed n (hoard_of v)) k)) in
       (sym a.1, sym a.0)
 
   -- any command on a struck piece changes no cell, and is counted as skipped

@@ -1,4 +1,6 @@
 // The catalogue: each piece's hoard, by the commands that one server knows to be settled.
+#![tactic(auto)]
+
 ghost use Rattle.std.specs.Prelude.{◌≡◌, ◌<◌, length, replicate};
 ghost use Rattle.command.specs.Command.{piece_of};
 ghost use Rattle.catalogue.specs.Entry.{entered, applies, changed};
@@ -22,7 +24,7 @@ const MOVE: u32 = 2;
 const STRIKE: u32 = 3;
 
 // What catalogue answers: how many commands were taken, and how many of these were skipped.
-#[derive(Drop)]
+#[derive(Clone, Copy)]
 pub enum Listing {
     Counted { taken: u32, skipped: u32 },
     Refused(u32),
@@ -90,6 +92,7 @@ pub fn entered(cell: u32) -> bool
 }
 
 // Takes the outputs from slot 0 up to the first slot without one.
+#[tactic(auto, using(crate::proofs::ListLaws::last_slot, crate::proofs::ListLaws::last_output, crate::proofs::FoldLaws::skipped_small), unfolding(crate::specs::Outputs::output_at))]
 fn list(room: &[u32], z: Sizes, p: u8, out: &mut [u32]) -> Listing
     requires { Listable z room.now p × (out.old ≡ replicate pieces 0) }
     ensures { (result ≡ counted z room.now p) × (out.new ≡ (entries_of z room.now p).cells) }
@@ -111,6 +114,7 @@ fn list(room: &[u32], z: Sizes, p: u8, out: &mut [u32]) -> Listing
 }
 
 // Applies one command to the cell of its piece; answers 1 for a command that is skipped and 0 for any other.
+#[tactic(auto, unfolding(crate::specs::Entry::entry, crate::specs::Fold::cells_after, crate::specs::Fold::skipped_by))]
 fn apply(out: &mut [u32], command: u32) -> u32
     requires { piece_of command < length out.old }
     ensures { (result ≡ skipped_by out.old command) × (out.new ≡ cells_after out.old command) }
@@ -126,6 +130,7 @@ fn apply(out: &mut [u32], command: u32) -> u32
 }
 
 // Whether a command of this kind does something to the cell.
+#[tactic(auto, unfolding(crate::specs::Entry::applies))]
 fn applies(kind: u32, cell: u32) -> bool
     ensures { result ≡ applies kind cell }
 {

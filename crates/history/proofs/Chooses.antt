@@ -44,10 +44,10 @@ module _ (kind : ℕ → ℕ → Step) (alone : (p s : ℕ) → view_of (kind p 
       (λ e. tested (committed a) (Chooses p) _ (λ c. ap (kind p) (eqb-true s t e))))
 
   -- a step of this kind that commits
-  commit-by
+  commit_by
       : (t p s : ℕ) (cells : List ℕ) (st : Step) → st ≡ kind p s → committed (answered cells st) ≡ true
       → WhenChooses (move_of t st (answered cells st)) (Commit kind t cells (Steps st))
-  commit-by t p s cells st is e =
+  commit_by t p s cells st is e =
       let a = answered cells st in
       chooses_map (move_of t st a) _ _
       (λ q k. record { call = ap Steps (is ∙ k); commits = subst (λ (x : Step). committed (answered cells x) ≡ true) (is ∙ k) e })
@@ -65,10 +65,10 @@ step_commits t cells st =
         → WhenChooses (move_of t st (answered cells st)) (FinishOrLearn t cells (Steps st))
     by_kind e (inl f) =
         chooses_map (move_of t st (answered cells st)) _ _ (λ q c. inl c)
-        (commit-by Finish (λ p s. refl) t f.server f.slot cells st f.is e)
+        (commit_by Finish (λ p s. refl) t f.server f.slot cells st f.is e)
     by_kind e (inr r) =
         chooses_map (move_of t st (answered cells st)) _ _ (λ q c. inr (record { drive = r.drive; other = r.other; by = c }))
-        (commit-by (λ p s. Read p s r.drive r.other) (λ p s. refl) t r.server r.slot cells st r.is e)
+        (commit_by (λ p s. Read p s r.drive r.other) (λ p s. refl) t r.server r.slot cells st r.is e)
 
 -- an Offer makes no Choose, whatever its answer
 offers_only : (t p s v : ℕ) (a : Answer) (A : ℕ → Type 0) → WhenChooses (move_of t (Offer p s v) a) A

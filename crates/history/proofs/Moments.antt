@@ -26,13 +26,13 @@ use Rattle.room.specs.declared.effect.Effect.TheVariants.{Refused}
 use Rattle.room.specs.Judge.{seen, effect_of, judged, answer_of}
 use Rattle.room.specs.Step.{settled, answered, stepped}
 use Rattle.free_slots.specs.Put.{put_judged, put_answered, put_cells}
-use Rattle.room.proofs.Checks.{by-checks}
-use Rattle.free_slots.proofs.PutLaws.{by-put}
+use Rattle.room.proofs.Checks.{by_checks}
+use Rattle.free_slots.proofs.PutLaws.{by_put}
 use Rattle.step_laws.specs.Concerns.{concerns}
 use Rattle.step_laws.proofs.Slots.{after_at}
 use Rattle.step_laws.proofs.StoresKeep.{Whole}
 use Rattle.step_laws.proofs.StepKeeps.{effect_kept}
-use Rattle.step_laws.proofs.SlotTie.{slot-tie}
+use Rattle.step_laws.proofs.SlotTie.{slot_tie}
 use Rattle.history.specs.Calls.{Call, Steps, Asks, Puts, Event, event_of, called}
 use Rattle.history.specs.Run.{Move, Rests, move_of, move_in, output_in, output_by, WhenChooses}
 use Rattle.history.proofs.SlotMoves.{Moves, rests}
@@ -72,11 +72,11 @@ module _ (limits : List ℕ) (z : Sizes) (cells : List ℕ) (g : ℕ → Ghost) 
   fit : Fit z
   fit = now.whole.range.row.fit
 
-  after-alike-at
+  after_alike_at
       : (st : Step) → places_fit z st ≡ true → (t : ℕ) → t < z.slots
       → Alike (config_of z) (after_at z (off_of cells) t (σ t) st) (after_at z (off_of cells) t (seen z cells t) st)
   unfolding after_at
-  after-alike-at st h t l =
+  after_alike_at st h t l =
       let like = now.alike t l in
       by_test (concerns t st)
       (λ e.
@@ -100,11 +100,11 @@ module _ (limits : List ℕ) (z : Sizes) (cells : List ℕ) (g : ℕ → Ghost) 
       (λ e. rw e (kept z (fits_of z fit) (off_of cells) (now.holds t l) st h))
       (λ e. rw e (now.holds t l))
 
-  moves-after
+  moves_after
       : (st : Step) → places_fit z st ≡ true → (t : ℕ) → t < z.slots
       → MovesBy t (g t) (σ t) st (answer_of (effect_of z cells st)) (ghost_after st t) (after_at z (off_of cells) t (σ t) st)
   unfolding after_at
-  moves-after st h t l =
+  moves_after st h t l =
       by_test (concerns t st)
       (λ e.
       let same =
@@ -112,10 +112,10 @@ module _ (limits : List ℕ) (z : Sizes) (cells : List ℕ) (g : ℕ → Ghost) 
       rw (e, same) (concerned z (fits_of z fit) (off_of cells) (g t) (σ t) (now.holds t l) st h t e))
       (λ e. rw e (resting t (g t) (σ t) st (answer_of (effect_of z cells st)) (unconcerned t st (answer_of (effect_of z cells st)) e)))
 
-  effect-next
+  effect_next
       : (st : Step) → places_fit z st ≡ true → command_fits limits st ≡ true
       → AfterStep limits z g σ st (answer_of (effect_of z cells st)) (settled z cells (effect_of z cells st))
-  effect-next st h k =
+  effect_next st h k =
       record {
         ghosts = ghost_after st;
         slots = λ t. after_at z (off_of cells) t (σ t) st;
@@ -124,10 +124,10 @@ module _ (limits : List ℕ) (z : Sizes) (cells : List ℕ) (g : ℕ → Ghost) 
               whole = effect_kept limits z cells now.whole st h k;
               alike =
                   λ t l.
-                  alike_then (after-alike-at st h t l) (slot-tie z cells now.whole.range.row st h t l);
+                  alike_then (after_alike_at st h t l) (slot_tie z cells now.whole.range.row st h t l);
               holds = Holds-after st h;
             };
-        moves = moves-after st h;
+        moves = moves_after st h;
         within =
             λ t.
             chooses_map (move_of t st (answer_of (effect_of z cells st))) _ _ (λ p c. c.within z (in_view z st h)) (chooser t st (answer_of (effect_of z cells st)));
@@ -152,27 +152,27 @@ module _ (z : Sizes) (cells : List ℕ) (g : ℕ → Ghost) (σ : ℕ → Slot) 
   unfolding settled
   leads_refused st n = refused_next (limits_of cells) z cells g σ now st n
 
-  leads-effect
+  leads_effect
       : (st : Step) → places_fit (sizes_of cells) st ≡ true → command_fits (limits_of cells) st ≡ true
       → Leads st (effect_of (sizes_of cells) cells st)
-  leads-effect st b c =
+  leads_effect st b c =
       let same = now.whole.sizes in
       subst (λ (y : Sizes). Leads st (effect_of y cells st)) (sym same)
-      (effect-next (limits_of cells) z cells g σ now st (ap (λ (y : Sizes). places_fit y st) (sym same) ∙ b) c)
+      (effect_next (limits_of cells) z cells g σ now st (ap (λ (y : Sizes). places_fit y st) (sym same) ∙ b) c)
 
   leads_judged : (st : Step) → Leads st (judged cells st)
   leads_judged st =
-      by-checks cells st (Leads st)
+      by_checks cells st (Leads st)
       (λ a. leads_refused st 3)
       (λ a b. leads_refused st 4)
       (λ a b c. leads_refused st 5)
-      (λ a b c. leads-effect st b c)
+      (λ a b c. leads_effect st b c)
 
   -- a Put that is judged leads where the Offer does
   leads_put : (p s v : ℕ) → Leads (Offer p s v) (put_judged cells p s v)
   leads_put p s v =
       let st = Offer p s v in
-      by-put cells p s v (Leads st) (λ n h. leads_refused st n) (λ a b c d. unfold places_fit command_fits in leads-effect st b c)
+      by_put cells p s v (Leads st) (λ n h. leads_refused st n) (λ a b c d. unfold places_fit command_fits in leads_effect st b c)
 
   -- the effect is stored by the room's own sizes
   stored : (st : Step) (e : Effect) → Leads st e → AfterStep (limits_of cells) z g σ st (answer_of e) (settled (sizes_of cells) cells e)

@@ -22,10 +22,10 @@ use Rattle.history.proofs.Choosers.{chooses_map}
 use Rattle.history.proofs.Moments.{Moment, next}
 
 module _ (z : Sizes) where
-  equal-at
+  equal_at
       : (cells : List ℕ) (g : ℕ → Ghost) (σ : ℕ → Slot) → Moment (limits_of cells) z cells g σ → (t : ℕ) → t < z.slots
       → Equal z t (machine_of (g t) (σ t)) cells
-  equal-at cells g σ now t h =
+  equal_at cells g σ now t h =
       record {
         offers = λ p l. sym (ap offer_of (now.alike t h p l).own);
         outputs = λ p l. sym (ap output_of (now.alike t h p l).own);
@@ -34,29 +34,29 @@ module _ (z : Sizes) where
   pub follows
       : (cells : List ℕ) (g : ℕ → Ghost) (σ : ℕ → Slot) → Moment (limits_of cells) z cells g σ → (calls : List Call)
       → (t : ℕ) → t < z.slots → Follows z t (machine_of (g t) (σ t)) cells calls
-  follows cells g σ now [] t h = ends (equal-at cells g σ now t h)
+  follows cells g σ now [] t h = ends (equal_at cells g σ now t h)
   follows cells g σ now (c ∷ cs) t h =
       let n = next z cells g σ now c in
-      goes (equal-at cells g σ now t h) (n.moves t h).makes (follows (called cells c) n.ghosts n.slots n.moment cs t h)
+      goes (equal_at cells g σ now t h) (n.moves t h).makes (follows (called cells c) n.ghosts n.slots n.moment cs t h)
 
-  pub offered-earlier
+  pub offered_earlier
       : (cells : List ℕ) (g : ℕ → Ghost) (σ : ℕ → Slot) → Moment (limits_of cells) z cells g σ → (calls : List Call)
       → (t : ℕ) → t < z.slots → OfferedEarlier t (g t).offered (history cells calls)
   unfolding history OfferedEarlier output_by
-  offered-earlier cells g σ now [] t h = tt
-  offered-earlier cells g σ now (c ∷ cs) t h =
+  offered_earlier cells g σ now [] t h = tt
+  offered_earlier cells g σ now (c ∷ cs) t h =
       let n = next z cells g σ now c in (
         (n.moves t h).early,
         subst (λ (l : List ℕ). OfferedEarlier t l (history (called cells c) cs)) (n.moves t h).hears
-            (offered-earlier (called cells c) n.ghosts n.slots n.moment cs t h),
+            (offered_earlier (called cells c) n.ghosts n.slots n.moment cs t h),
       )
 
-  pub all-commit
+  pub all_commit
       : (cells : List ℕ) (g : ℕ → Ghost) (σ : ℕ → Slot) → Moment (limits_of cells) z cells g σ → (calls : List Call) (t : ℕ) → t < z.slots
       → (v : ℕ) → v ≡ or_else (first_command (g t).commits) (first_output t (history cells calls)) → AllCommit t v (history cells calls)
   unfolding history first_output output_by AllCommit
-  all-commit cells g σ now [] t h v e = tt
-  all-commit cells g σ now (c ∷ cs) t h v e =
+  all_commit cells g σ now [] t h v e = tt
+  all_commit cells g σ now (c ∷ cs) t h v e =
       let n = next z cells g σ now c in
       let out = output_by t (event_of cells c) in
       let rest = first_output t (history (called cells c) cs) in
@@ -67,29 +67,29 @@ module _ (z : Sizes) where
             let is : v ≡ out = e2 ∙ ap (λ (x : ℕ). or_else x rest) (sym a.0) ∙ or_some out rest a.1 in
             (sym is, λ k. a.1 (sym is ∙ k)))
             (n.moves t h).agrees,
-        all-commit (called cells c) n.ghosts n.slots n.moment cs t h v e2,
+        all_commit (called cells c) n.ghosts n.slots n.moment cs t h v e2,
       )
 
   -- after a call that chooses, the room's output is the answer's command
-  output-answered
+  output_answered
       : (cells : List ℕ) (g : ℕ → Ghost) (σ : ℕ → Slot) → Moment (limits_of cells) z cells g σ → (t : ℕ) → t < z.slots
       → (m : Move) (out : ℕ) → WhenChooses m (λ p. p < z.servers) → WhenChooses m (λ p. outputs (σ t) p ≡ out)
       → WhenChooses m (λ p. output_of (server_of z cells t p) ≡ out)
-  output-answered cells g σ now t h (Offers p v) out l e = tt
-  output-answered cells g σ now t h (Chooses p) out l e = sym (ap output_of (now.alike t h p l).own) ∙ e
-  output-answered cells g σ now t h (Fails p) out l e = tt
-  output-answered cells g σ now t h Rests out l e = tt
+  output_answered cells g σ now t h (Offers p v) out l e = tt
+  output_answered cells g σ now t h (Chooses p) out l e = sym (ap output_of (now.alike t h p l).own) ∙ e
+  output_answered cells g σ now t h (Fails p) out l e = tt
+  output_answered cells g σ now t h Rests out l e = tt
 
-  pub commits-output
+  pub commits_output
       : (cells : List ℕ) (g : ℕ → Ghost) (σ : ℕ → Slot) → Moment (limits_of cells) z cells g σ → (calls : List Call)
       → (t : ℕ) → t < z.slots → CommitsOutput z t cells calls
   unfolding CommitsOutput
-  commits-output cells g σ now [] t h = tt
-  commits-output cells g σ now (c ∷ cs) t h =
+  commits_output cells g σ now [] t h = tt
+  commits_output cells g σ now (c ∷ cs) t h =
       let n = next z cells g σ now c in (
-        output-answered (called cells c) n.ghosts n.slots n.moment t h (move_in t (event_of cells c))
+        output_answered (called cells c) n.ghosts n.slots n.moment t h (move_in t (event_of cells c))
             (output_by t (event_of cells c)) (n.within t) (n.moves t h).shows,
-        commits-output (called cells c) n.ghosts n.slots n.moment cs t h,
+        commits_output (called cells c) n.ghosts n.slots n.moment cs t h,
       )
 
   -- a room of a run, whose outputs are those of the list first
@@ -101,26 +101,26 @@ module _ (z : Sizes) where
         → output_of (server_of z room t p) ≡ first t
 
   -- an output is the slot's first commit
-  output-first
+  output_first
       : (cells : List ℕ) (g : ℕ → Ghost) (σ : ℕ → Slot) → Moment (limits_of cells) z cells g σ → (t p : ℕ) → t < z.slots
       → p < z.servers → (output_of (server_of z cells t p) ≡ 0 → ⊥) → first_command (g t).commits ≡ output_of (server_of z cells t p)
-  output-first cells g σ now t p h l n =
+  output_first cells g σ now t p h l n =
       let same = ap output_of (now.alike t h p l).own in
       let by = output_committed (now.holds t h) p l (λ e. n (sym same ∙ e)) in
       let this = by.committed in
       first_of (g t).commits (output_of (server_of z cells t p)) n
       (λ u m. agree (now.holds t h) m this ∙ same) _ this
 
-  shown-now
+  shown_now
       : (cells : List ℕ) (g : ℕ → Ghost) (σ : ℕ → Slot) → Moment (limits_of cells) z cells g σ → (first later : ℕ → ℕ)
       → ((t : ℕ) → t < z.slots → first t ≡ or_else (first_command (g t).commits) (later t)) → Shown first cells
-  shown-now cells g σ now first later e =
+  shown_now cells g σ now first later e =
       record {
         range = Says-range (limits_of cells) z cells refl (sym now.whole.sizes) now.whole.range;
         sizes = now.whole.sizes;
         outputs =
             λ t p h l n.
-            let f = output-first cells g σ now t p h l n in
+            let f = output_first cells g σ now t p h l n in
             sym (e t h ∙ ap (λ (x : ℕ). or_else x (later t)) f ∙ or_some (output_of (server_of z cells t p)) (later t) n);
       }
 
@@ -129,12 +129,12 @@ module _ (z : Sizes) where
       → ((t : ℕ) → t < z.slots → first t ≡ or_else (first_command (g t).commits) (first_output t (history cells calls)))
       → Always (Shown first) cells calls
   unfolding Always history first_output output_by
-  shown cells g σ now [] first e = shown-now cells g σ now first (λ t. 0) e
+  shown cells g σ now [] first e = shown_now cells g σ now first (λ t. 0) e
   shown cells g σ now (c ∷ cs) first e =
       let n = next z cells g σ now c in
       let out : ℕ → ℕ = λ t. output_by t (event_of cells c) in
       let rest : ℕ → ℕ = λ t. first_output t (history (called cells c) cs) in (
-        shown-now cells g σ now first (λ t. or_else (out t) (rest t)) e,
+        shown_now cells g σ now first (λ t. or_else (out t) (rest t)) e,
         shown (called cells c) n.ghosts n.slots n.moment cs first
             (λ t h.
             e t h

@@ -9,7 +9,7 @@ use borrow.Author.Tests.{ltb-true, leb-true, not-true}
 use lib.ListN.{length, get_or}
 use Rattle.state.specs.declared.Step.{Step}
 use Rattle.checks.specs.Refusals.{refusals_of, lowest}
-use Rattle.checks.proofs.CheckLaws.{must-cases}
+use Rattle.checks.proofs.CheckLaws.{must_cases}
 use Rattle.checks.proofs.LowestLaws.{first_applies}
 use Rattle.record.specs.Answers.{read_refusal}
 use Rattle.record.specs.Fields.{mask_of, fields_of, step_of, with_values}
@@ -40,12 +40,12 @@ accepted bytes {step} {used} =
     let kind = get_or bytes 1 0 in
     let P : Reading → Type 0 = λ a. a ≡ Decoded step used → Accepted bytes step used in
     let stop : (n : ℕ) → P (Refused n) = λ n e. let none : ◌≡◌ {A = ℕ} 0 1 = cc in absurd (omega arith) in
-    must-cases Refused P _ 14 _ (stop 14) (λ some.
-    must-cases Refused P _ 15 _ (stop 15) (λ small.
-    must-cases Refused P _ 14 _ (stop 14) (λ two.
-    must-cases Refused P _ 15 _ (stop 15) (λ fair.
-    must-cases Refused P _ 14 _ (stop 14) (λ enough.
-    must-cases Refused P _ 15 _ (stop 15) (λ none_zero read.
+    must_cases Refused P _ 14 _ (stop 14) (λ some.
+    must_cases Refused P _ 15 _ (stop 15) (λ small.
+    must_cases Refused P _ 14 _ (stop 14) (λ two.
+    must_cases Refused P _ 15 _ (stop 15) (λ fair.
+    must_cases Refused P _ 14 _ (stop 14) (λ enough.
+    must_cases Refused P _ 15 _ (stop 15) (λ none_zero read.
     record {
       small = ltb-true m 32 small;
       two = leb-true 2 (length bytes) two;
@@ -101,9 +101,9 @@ read_number bytes =
     let P : Reading → Type 0 = λ a. ReadNumber (read_refusal a) in
     let cut_short : ReadNumber 14 = inr (inl refl) in
     let bad : ReadNumber 15 = inr (inr refl) in
-    must-cases Refused P _ 14 _ cut_short (λ some.
-    must-cases Refused P _ 15 _ bad (λ small.
-    must-cases Refused P _ 14 _ cut_short (λ two.
-    must-cases Refused P _ 15 _ bad (λ fair.
-    must-cases Refused P _ 14 _ cut_short (λ enough.
-    must-cases Refused P _ 15 _ bad (λ none_zero. inl refl))))))
+    must_cases Refused P _ 14 _ cut_short (λ some.
+    must_cases Refused P _ 15 _ bad (λ small.
+    must_cases Refused P _ 14 _ cut_short (λ two.
+    must_cases Refused P _ 15 _ bad (λ fair.
+    must_cases Refused P _ 14 _ cut_short (λ enough.
+    must_cases Refused P _ 15 _ bad (λ none_zero. inl refl))))))

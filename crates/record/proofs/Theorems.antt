@@ -7,7 +7,7 @@ use native.Mathlib.Omega.{arith}
 use borrow.Author.Tests.{le-leb, lt-ltb}
 use lib.ListN.{length, get_or, take, drop, length-append}
 use Rattle.state.specs.declared.Step.{Step}
-use Rattle.checks.proofs.CheckLaws.{passes, must-cases}
+use Rattle.checks.proofs.CheckLaws.{passes, must_cases}
 use Rattle.record.specs.Answers.{Reads, write_refusal, write_length}
 use Rattle.record.specs.Fields.{mask_of, fields_of, step_of, values_of, with_values, StepFits}
 use Rattle.record.specs.Map.{widths, map_of, record_length, fields_length, unknown, malformed, asks_more, zero_among}
@@ -142,7 +142,7 @@ unfolding storing write_checks writing_of stored written_of
 write_then_read step buffer fits =
     let P : Writing → Type 0 =
     λ w. write_refusal w ≡ 0 → Reads (reading_of (written_by w (record_of step) buffer)) step (write_length w) in
-    must-cases writing.Refused P _ 2 _
+    must_cases writing.Refused P _ 2 _
     (λ refused. absurd (omega arith))
     (λ long wrote. read_back step (drop (length (record_of step)) buffer) fits)
 

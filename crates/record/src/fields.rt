@@ -5,7 +5,7 @@ ghost use Rattle.record.specs.Fields.{fields, fields_of, step_of};
 use state::Step;
 
 // A step as numbers: the kind and the five fields, 0 where the kind has no such field.
-#[derive(Drop)]
+#[derive(Clone, Copy)]
 pub struct Fields {
     pub kind: u8,
     pub server: u8,

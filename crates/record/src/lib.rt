@@ -1,4 +1,6 @@
 // Step records: a step read from bytes, and written as bytes (SPEC, "Step records").
+#![tactic(auto)]
+
 mod decode;
 mod encode;
 mod fields;
@@ -12,21 +14,21 @@ pub use fields::{Fields, step_of};
 use state::Step;
 
 // What reading answers: the step with the length used, or the refusal's number.
-#[derive(Drop)]
+#[derive(Clone, Copy)]
 pub enum Reading {
     Decoded(Step, usize),
     Refused(u32),
 }
 
 // What reading to fields answers: the fields of the step with the length used, or the refusal's number.
-#[derive(Drop)]
+#[derive(Clone, Copy)]
 pub enum Found {
     Record(Fields, usize),
     Refused(u32),
 }
 
 // What writing answers: the length used, or the refusal's number.
-#[derive(Drop)]
+#[derive(Clone, Copy)]
 pub enum Writing {
     Encoded(usize),
     Refused(u32),

@@ -16,7 +16,7 @@ use Rattle.history.specs.Calls.{Call}
 use Rattle.history.specs.Run.{history, first_output}
 use Rattle.history.proofs.Always.{always_map}
 use Rattle.history.proofs.Opened.{opens}
-use Rattle.history.proofs.Runs.{follows, offered-earlier, all-commit, commits-output, Shown, shown}
+use Rattle.history.proofs.Runs.{follows, offered_earlier, all_commit, commits_output, Shown, shown}
 use Rattle.catalogue.specs.Fold.{folded, start}
 use Rattle.catalogue.specs.Outputs.{output_at, leading, outputs_of}
 use Rattle.catalogue.specs.Call.{entries_of, counted}
@@ -70,9 +70,9 @@ from_opened z fit calls =
       catalogues =
           always_map (Shown z first) (AllShow z (leading first 0 z.slots)) (shows z first) cells calls
           (shown z cells (λ t. no_ghost) (λ t. blank_slot) now calls first (λ t h. refl));
-      outputs = commits-output z cells (λ t. no_ghost) (λ t. blank_slot) now calls;
-      agreed = λ t h. all-commit z cells (λ t. no_ghost) (λ t. blank_slot) now calls t h (first t) refl;
-      offered = offered-earlier z cells (λ t. no_ghost) (λ t. blank_slot) now calls;
+      outputs = commits_output z cells (λ t. no_ghost) (λ t. blank_slot) now calls;
+      agreed = λ t h. all_commit z cells (λ t. no_ghost) (λ t. blank_slot) now calls t h (first t) refl;
+      offered = offered_earlier z cells (λ t. no_ghost) (λ t. blank_slot) now calls;
     }
 
 -- DEMAND 3

@@ -2,6 +2,8 @@
 // as fields; the length of a room and the places in it; whether a catalogue's cell is a hoard. Each judges its own input and
 // refuses what is bad, or answers 0 where there is no such place; none has a requirement. The theorem about whole runs is
 // in specs/OneHistory.antt and proofs/Theorem.antt.
+#![tactic(auto)]
+
 pub use catalogue::{Listing, PIECES, STRUCK, catalogue, entered};
 pub use free_slots::asking::{Asking, ask};
 pub use free_slots::putting::put;

@@ -20,7 +20,7 @@ use Rattle.layout.specs.Cells.{sizes_of, off_of}
 use Rattle.room.specs.declared.effect.Effect.{Effect}
 use Rattle.room.specs.Judge.{seen, rule_at, effect_of, answer_of}
 use Rattle.room.specs.Step.{answered}
-use Rattle.room.proofs.Checks.{by-checks}
+use Rattle.room.proofs.Checks.{by_checks}
 use Rattle.step_laws.specs.Committing.{IsFinish, IsRead, FinishOrRead}
 use Rattle.step_laws.proofs.Lowest.{answer_by, effect_answer}
 
@@ -57,6 +57,6 @@ effect_commits z cells st =
 pub who_commits : (cells : List ℕ) (st : Step) → code_of (answered cells st) ≡ 3 → FinishOrRead st
 unfolding answered
 who_commits cells st =
-    by-checks cells st (λ (e : Effect). Commits st (answer_of e))
+    by_checks cells st (λ (e : Effect). Commits st (answer_of e))
     (λ a e. absurd (omega arith)) (λ a b e. absurd (omega arith)) (λ a b c e. absurd (omega arith))
     (λ a b c. effect_commits (sizes_of cells) cells st)

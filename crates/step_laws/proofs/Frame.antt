@@ -11,10 +11,10 @@ use Rattle.range.proofs.Laws.{range_says}
 use Rattle.room.specs.declared.effect.Effect.{Effect}
 use Rattle.room.specs.Judge.{seen}
 use Rattle.room.specs.Step.{settled, stepped}
-use Rattle.room.proofs.Checks.{by-checks}
+use Rattle.room.proofs.Checks.{by_checks}
 use Rattle.step_laws.specs.Concerns.{concerns}
 use Rattle.step_laws.proofs.Slots.{after_at}
-use Rattle.step_laws.proofs.SlotTie.{slot-tie}
+use Rattle.step_laws.proofs.SlotTie.{slot_tie}
 
 pub Slot-kept
     : (cells : List ℕ) (st : Step) (t : ℕ) → t < (sizes_of cells).slots → concerns t st ≡ false
@@ -22,9 +22,9 @@ pub Slot-kept
 unfolding stepped settled after_at
 Slot-kept cells st t h e =
     let z = sizes_of cells in
-    by-checks cells st
+    by_checks cells st
     (λ (x : Effect). Alike (config_of z) (seen z cells t) (seen z (settled z cells x) t))
     (λ a. alike_same (config_of z) (seen z cells t))
     (λ a b. alike_same (config_of z) (seen z cells t))
     (λ a b c. alike_same (config_of z) (seen z cells t))
-    (λ a b c. rw e at (slot-tie z cells (range_says cells a).row st b t h))
+    (λ a b c. rw e at (slot_tie z cells (range_says cells a).row st b t h))

@@ -23,7 +23,7 @@ use Rattle.layout.specs.Cells.{sizes_of, off_of}
 use Rattle.room.specs.declared.effect.Effect.{Effect}
 use Rattle.room.specs.Judge.{seen, effect_at, rule_at, effect_of, step_checks, answer_of}
 use Rattle.room.specs.Step.{settled, answered, stepped}
-use Rattle.room.proofs.Checks.{by-checks}
+use Rattle.room.proofs.Checks.{by_checks}
 use Rattle.step_laws.specs.Refusals.{refusals, own_numbers, numbers_for}
 
 -- the answer that goes with a ruling
@@ -99,7 +99,7 @@ effect_lowest z cells st =
 pub answer_lowest : (cells : List ℕ) (st : Step) → step_refusal (answered cells st) ≡ lowest (refusals cells st)
 unfolding answered refusals step_checks lowest
 answer_lowest cells st =
-    by-checks cells st
+    by_checks cells st
     (λ (e : Effect). step_refusal (answer_of e) ≡ lowest (refusals cells st))
     (λ a. simp a)
     (λ a b. simp (a, b))
@@ -147,7 +147,7 @@ effect_leaves z cells st =
 pub refusal_leaves : (cells : List ℕ) (st : Step) → (step_refusal (answered cells st) ≡ 0 → ⊥) → stepped cells st ≡ cells
 unfolding answered stepped settled
 refusal_leaves cells st =
-    by-checks cells st
+    by_checks cells st
     (λ (e : Effect). (step_refusal (answer_of e) ≡ 0 → ⊥) → settled (sizes_of cells) cells e ≡ cells)
     (λ a n. refl) (λ a b n. refl) (λ a b c n. refl)
     (λ a b c. effect_leaves (sizes_of cells) cells st)

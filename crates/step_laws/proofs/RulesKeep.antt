@@ -59,10 +59,10 @@ module _ (limits : List ℕ) (z : Sizes) where
 
   module _ (v : Server) (s : ServerIn limits (masks_of z) v) where
     -- a record that begins a phase
-    begun-in
+    begun_in
         : (phase mbal bal inp : ℕ) → phase ≤ 3 → mbal ≤ limit → bal ≤ limit → value_fits limits inp ≡ true
         → ServerIn limits (masks_of z) (cleared (with_own v phase mbal bal inp))
-    begun-in phase mbal bal inp h m b i =
+    begun_in phase mbal bal inp h m b i =
         record {
           phase = h;
           mbal = m;
@@ -78,11 +78,11 @@ module _ (limits : List ℕ) (z : Sizes) where
         }
 
     -- a record with other notes of its phase
-    notes-in
+    notes_in
         : (top seenbal seeninp written read : ℕ) → top ≤ limit → seenbal ≤ limit → value_fits limits seeninp ≡ true
         → within written (masks_of z).drives ≡ true → within read (masks_of z).reads ≡ true
         → ServerIn limits (masks_of z) (with_notes v top seenbal seeninp written read)
-    notes-in top seenbal seeninp written read a b c d e =
+    notes_in top seenbal seeninp written read a b c d e =
         record {
           phase = s.phase;
           mbal = s.mbal;
@@ -100,7 +100,7 @@ module _ (limits : List ℕ) (z : Sizes) where
     meeting_in : (b : Block) → BlockIn limits b → ServerIn limits (masks_of z) (meeting v b)
     unfolding meeting
     meeting_in b t =
-        notes-in _ _ _ _ _ s.top
+        notes_in _ _ _ _ _ s.top
         (pick_most (ltb v.seenbal b.bal) b.bal v.seenbal limit t.bal s.seenbal)
         (pick_value limits (ltb v.seenbal b.bal) b.inp v.seeninp t.inp s.seeninp)
         s.written s.read
@@ -108,11 +108,11 @@ module _ (limits : List ℕ) (z : Sizes) where
     topping_in : (mbal : ℕ) → mbal ≤ limit → ServerIn limits (masks_of z) (topping v mbal)
     unfolding topping
     topping_in mbal h =
-        notes-in _ _ _ _ _ (omega (arith, s.top, h)) s.seenbal s.seeninp s.written s.read
+        notes_in _ _ _ _ _ (omega (arith, s.top, h)) s.seenbal s.seeninp s.written s.read
 
     bidding_in : (b : ℕ) → b ≤ limit → ServerIn limits (masks_of z) (bidding v b)
     unfolding bidding
-    bidding_in b h = begun-in 1 _ _ _ (omega arith) h s.bal s.inp
+    bidding_in b h = begun_in 1 _ _ _ (omega arith) h s.bal s.inp
 
     agreeing_in : (c : ℕ) → value_fits limits c ≡ true → ServerIn limits (masks_of z) (agreeing v c)
     unfolding agreeing
@@ -134,15 +134,15 @@ module _ (limits : List ℕ) (z : Sizes) where
     marking_in : Fit z → (d q : ℕ) → d < z.drives → q < z.servers → ServerIn limits (masks_of z) (marking v d q)
     unfolding marking
     marking_in fit d q h l =
-        notes-in _ _ _ _ _ s.top s.seenbal s.seeninp s.written
+        notes_in _ _ _ _ _ s.top s.seenbal s.seeninp s.written
         (within_marked v.read (masks_of z).reads (read_bit d q) s.read (read_legal z fit d q h l))
 
   module _ (fit : Fit z) (v : Server) (s : ServerIn limits (masks_of z) v) where
-    recalling-in
+    recalling_in
         : (b : Block) (p d : ℕ) → BlockIn limits b → d < z.drives → p < z.servers
         → ServerIn limits (masks_of z) (recalling v b p d)
     unfolding recalling
-    recalling-in b p d t h l =
+    recalling_in b p d t h l =
         let m = marking_in v s fit d p h l in
         let n = topping_in (marking v d p) m b.mbal t.mbal in
         meeting_in (topping (marking v d p) b.mbal) n b t
@@ -164,16 +164,16 @@ module _ (limits : List ℕ) (z : Sizes) where
           agreed = s.agreed;
         }
 
-    pub recall-keeps
+    pub recall_keeps
         : (off : ℕ) (b : Block) (p d : ℕ) → BlockIn limits b → d < z.drives → p < z.servers
         → Keeps limits z (ruling (recall_rule off v b p d))
-    recall-keeps off b p d t h l = recall_cases (Keeps limits z) (λ n. tt) v off b p d (λ e. recalling-in b p d t h l)
+    recall_keeps off b p d t h l = recall_cases (Keeps limits z) (λ n. tt) v off b p d (λ e. recalling_in b p d t h l)
 
     pub rejoin_keeps : (servers drives p b : ℕ) → Keeps limits z (ruling (rejoin_rule servers drives v p b))
     unfolding rejoining
     rejoin_keeps servers drives p b =
         rejoin_cases (Keeps limits z) (λ n. tt) v servers drives p b
-        (λ o e m t. begun-in v s 1 _ _ _ (omega arith) (owned_within servers p b o) s.seenbal s.seeninp)
+        (λ o e m t. begun_in v s 1 _ _ _ (omega arith) (owned_within servers p b o) s.seenbal s.seeninp)
 
     pub bid_keeps : (servers p b : ℕ) → Keeps limits z (ruling (bid_rule servers v p b))
     bid_keeps servers p b =
@@ -184,7 +184,7 @@ module _ (limits : List ℕ) (z : Sizes) where
     write_keeps off d h =
         write_cases (Keeps limits z) (λ n. tt) v off d
         (λ e.
-        notes-in v s _ _ _ _ _ s.top s.seenbal s.seeninp
+        notes_in v s _ _ _ _ _ s.top s.seenbal s.seeninp
         (within_marked v.written (masks_of z).drives d s.written (drive_legal z fit d h)) s.read)
 
     pub read_Keeps
@@ -202,6 +202,6 @@ module _ (limits : List ℕ) (z : Sizes) where
     finish_keeps servers drives p =
         finish_cases (Keeps limits z) (λ n. tt) v servers drives p
         (λ e m n.
-        begun-in v s 2 _ _ _ (omega arith) s.mbal s.mbal
+        begun_in v s 2 _ _ _ (omega arith) s.mbal s.mbal
         (pick_value limits (eqb v.seeninp 0) v.offer v.seeninp s.offer s.seeninp))
         (λ e m. agreeing_in v s v.inp s.inp)

@@ -24,7 +24,7 @@ use Rattle.room.specs.Judge.{seen, effect_at, effect_of}
 use Rattle.room.specs.Step.{settled}
 use Rattle.step_laws.specs.Concerns.{concerns_at, concerns}
 use Rattle.step_laws.proofs.Slots.{after_at}
-use Rattle.step_laws.proofs.Seen.{record-here, record-elsewhere, block_here, block-elsewhere, off_elsewhere, fail-everywhere}
+use Rattle.step_laws.proofs.Seen.{record_here, record_elsewhere, block_here, block_elsewhere, off_elsewhere, fail_everywhere}
 
 module _ (z : Sizes) (r : List ℕ) (row : Row z r) where
   -- the slot that the view names, after its ruling
@@ -33,11 +33,11 @@ module _ (z : Sizes) (r : List ℕ) (row : Row z r) where
       → Alike (config_of z) (after_view (seen z r s) (AtSlot p s k) x) (seen z (settled z r (effect_at (AtSlot p s k) off x)) s)
   unfolding settled
   tied p s (Brings c) off (Refused n) a = alike_same (config_of z) (seen z r s)
-  tied p s (Brings c) off (Accepted v b) a = record-here z r row s p v a.slot a.server
+  tied p s (Brings c) off (Accepted v b) a = record_here z r row s p v a.slot a.server
   tied p s (Stores d) off (Refused n) a = alike_same (config_of z) (seen z r s)
   tied p s (Stores d) off (Accepted v b) a = block_here z r row s d p v a.slot a.drive a.server
   tied p s Alone off (Refused n) a = alike_same (config_of z) (seen z r s)
-  tied p s Alone off (Accepted v b) a = record-here z r row s p v a.slot a.server
+  tied p s Alone off (Accepted v b) a = record_here z r row s p v a.slot a.server
 
   -- any other slot
   apart
@@ -45,11 +45,11 @@ module _ (z : Sizes) (r : List ℕ) (row : Row z r) where
       → Alike (config_of z) (seen z r t) (seen z (settled z r (effect_at (AtSlot p s k) off x)) t)
   unfolding settled
   apart p s (Brings c) off (Refused n) a t ne = alike_same (config_of z) (seen z r t)
-  apart p s (Brings c) off (Accepted v b) a t ne = record-elsewhere z r row s p v t a.server ne
+  apart p s (Brings c) off (Accepted v b) a t ne = record_elsewhere z r row s p v t a.server ne
   apart p s (Stores d) off (Refused n) a t ne = alike_same (config_of z) (seen z r t)
-  apart p s (Stores d) off (Accepted v b) a t ne = block-elsewhere z r row s d p v t a.drive a.server ne
+  apart p s (Stores d) off (Accepted v b) a t ne = block_elsewhere z r row s d p v t a.drive a.server ne
   apart p s Alone off (Refused n) a t ne = alike_same (config_of z) (seen z r t)
-  apart p s Alone off (Accepted v b) a t ne = record-elsewhere z r row s p v t a.server ne
+  apart p s Alone off (Accepted v b) a t ne = record_elsewhere z r row s p v t a.server ne
 
   -- the step with the view w and the rule f, at slot t
   abbrev TiedAt : ℕ → View → ℕ → (Slot → Ruling) → Type 0
@@ -57,11 +57,11 @@ module _ (z : Sizes) (r : List ℕ) (row : Row z r) where
       Alike (config_of z) (cond (concerns_at t w) (after_view (seen z r t) w (f (seen z r t))) (seen z r t))
       (seen z (settled z r (effect_at w off (f (seen z r (view_slot w))))) t)
 
-  view-tie
+  view_tie
       : (t : ℕ) → t < z.slots → (w : View) (off : ℕ) (f : Slot → Ruling) → InView z w → ((σ : Slot) → Plain w (f σ))
       → TiedAt t w off f
   unfolding settled
-  view-tie t h (AtSlot p s k) off f a plainly =
+  view_tie t h (AtSlot p s k) off f a plainly =
       by_test (eqb s t)
       (λ same.
       rw same
@@ -71,13 +71,13 @@ module _ (z : Sizes) (r : List ℕ) (row : Row z r) where
       (seen z (settled z r (effect_at (AtSlot p s k) off (f (seen z r s)))) u))
       (eqb-true s t same) (tied p s k off (f (seen z r s)) a)))
       (λ other. rw other (apart p s k off (f (seen z r s)) a t (eqb-false s t other)))
-  view-tie t h (AtServer p) off f a plainly = rw (plainly (seen z r t)) (fail-everywhere z r row p t a h)
-  view-tie t h (AtDrive d on) off f a plainly = off_elsewhere z r row off t
+  view_tie t h (AtServer p) off f a plainly = rw (plainly (seen z r t)) (fail_everywhere z r row p t a h)
+  view_tie t h (AtDrive d on) off f a plainly = off_elsewhere z r row off t
 
-  pub slot-tie
+  pub slot_tie
       : (st : Step) → places_fit z st ≡ true → (t : ℕ) → t < z.slots
       → Alike (config_of z) (after_at z (off_of r) t (seen z r t) st) (seen z (settled z r (effect_of z r st)) t)
   unfolding effect_of after_at concerns after
-  slot-tie st e t h =
-      view-tie t h (view_of st) _ (λ σ. ruled (config_of z) (off_of r) σ st) (in_view z st e)
+  slot_tie st e t h =
+      view_tie t h (view_of st) _ (λ σ. ruled (config_of z) (off_of r) σ st) (in_view z st e)
       (λ σ. plain (config_of z) (off_of r) σ st)

@@ -24,24 +24,24 @@ use Rattle.room.specs.declared.effect.Effect.{Effect}
 use Rattle.room.specs.Judge.{recording, blocking, effect_at, rule_at, effect_of}
 use Rattle.room.specs.Step.{settled, stepped}
 use Rattle.synod.proofs.Places.{placed, InView, in_view}
-use Rattle.room.proofs.Checks.{by-checks}
-use Rattle.step_laws.proofs.RulesKeep.{Keeps, failed_in, own_in, offer_keeps, recall-keeps, rejoin_keeps, bid_keeps, write_keeps, read_Keeps, finish_keeps}
-use Rattle.step_laws.proofs.StoresKeep.{Whole, server-kept, block_kept, off_kept, failure-kept}
+use Rattle.room.proofs.Checks.{by_checks}
+use Rattle.step_laws.proofs.RulesKeep.{Keeps, failed_in, own_in, offer_keeps, recall_keeps, rejoin_keeps, bid_keeps, write_keeps, read_Keeps, finish_keeps}
+use Rattle.step_laws.proofs.StoresKeep.{Whole, server_kept, block_kept, off_kept, failure_kept}
 
 module _ (limits : List ℕ) (z : Sizes) (r : List ℕ) (w : Whole limits z r) where
-  record-kept
+  record_kept
       : (s p : ℕ) (x : Ruling) → s < z.slots → p < z.servers → Keeps limits z x → Whole limits z (settled z r (recording s p x))
   unfolding settled
-  record-kept s p (said.Refused n) h l k = w
-  record-kept s p (said.Accepted v a) h l k = server-kept limits z r w s p v h l k
+  record_kept s p (said.Refused n) h l k = w
+  record_kept s p (said.Accepted v a) h l k = server_kept limits z r w s p v h l k
 
-  write-Kept
+  write_Kept
       : (s d p : ℕ) (x : Ruling) → s < z.slots → d < z.drives → p < z.servers → Keeps limits z x
       → Whole limits z (settled z r (blocking s d p x))
   unfolding settled
-  write-Kept s d p (said.Refused n) h m l k = w
-  write-Kept s d p (said.Accepted v a) h m l k =
-      block_kept limits z (put_server z r s p v) (server-kept limits z r w s p v h l k) s d p (own_block v) h m l (own_in limits z v k)
+  write_Kept s d p (said.Refused n) h m l k = w
+  write_Kept s d p (said.Accepted v a) h m l k =
+      block_kept limits z (put_server z r s p v) (server_kept limits z r w s p v h l k) s d p (own_block v) h m l (own_in limits z v k)
 
   server_at_lem : (s p : ℕ) → s < z.slots → p < z.servers → ServerIn limits (masks_of z) (server_of z r s p)
   server_at_lem s p h l = server_says limits (masks_of z) (server_of z r s p) (w.range.servers s p h l)
@@ -57,7 +57,7 @@ module _ (limits : List ℕ) (z : Sizes) (r : List ℕ) (w : Whole limits z r) w
       offer_keeps limits z w.range.row.fit _ (server_at_lem s p a.slot a.server) c f
   rule_keeps (Recall p s d) e f =
       let a = placed z (Recall p s d) e in
-      recall-keeps limits z w.range.row.fit _ (server_at_lem s p a.slot a.server) (off_of r) _ p d
+      recall_keeps limits z w.range.row.fit _ (server_at_lem s p a.slot a.server) (off_of r) _ p d
       (block_at_lem s d p a.slot a.drive a.server) a.drive a.server
   rule_keeps (Rejoin p s b) e f =
       let a = placed z (Rejoin p s b) e in
@@ -82,10 +82,10 @@ module _ (limits : List ℕ) (z : Sizes) (r : List ℕ) (w : Whole limits z r) w
   -- and so does storing it
   view_kept : (v : View) (x : Ruling) → InView z v → Keeps limits z x → Whole limits z (settled z r (effect_at v (off_after (off_of r) v) x))
   unfolding settled
-  view_kept (AtSlot p s (Brings c)) x a k = record-kept s p x a.slot a.server k
-  view_kept (AtSlot p s (Stores d)) x a k = write-Kept s d p x a.slot a.drive a.server k
-  view_kept (AtSlot p s Alone) x a k = record-kept s p x a.slot a.server k
-  view_kept (AtServer p) x a k = failure-kept limits z r w p a z.slots (omega arith)
+  view_kept (AtSlot p s (Brings c)) x a k = record_kept s p x a.slot a.server k
+  view_kept (AtSlot p s (Stores d)) x a k = write_Kept s d p x a.slot a.drive a.server k
+  view_kept (AtSlot p s Alone) x a k = record_kept s p x a.slot a.server k
+  view_kept (AtServer p) x a k = failure_kept limits z r w p a z.slots (omega arith)
   view_kept (AtDrive d true) x a k =
       off_kept limits z r w (unmarked (off_of r) d) (within_unmarked (off_of r) (legal_drives z) d w.range.off)
   view_kept (AtDrive d false) x a k =
@@ -103,7 +103,7 @@ whole_of r e = record { range = range_says r e; sizes = refl }
 pub step_whole : (r : List ℕ) (st : Step) → in_range r ≡ true → Whole (limits_of r) (sizes_of r) (stepped r st)
 unfolding stepped settled
 step_whole r st i =
-    by-checks r st (λ (e : Effect). Whole (limits_of r) (sizes_of r) (settled (sizes_of r) r e))
+    by_checks r st (λ (e : Effect). Whole (limits_of r) (sizes_of r) (settled (sizes_of r) r e))
     (λ a. whole_of r i)
     (λ a b. whole_of r i)
     (λ a b c. whole_of r i)

@@ -15,7 +15,7 @@ use Rattle.state.specs.Server.{failed}
 use Rattle.layout.specs.Places.{nth_block_at, block_at}
 use Rattle.layout.specs.Cells.{sizes_of, off_at, server_of, block_of, block_in, put_server, put_block}
 use Rattle.layout.proofs.PlaceLaws.{row_head}
-use Rattle.layout.proofs.RoomLaws.{server_row, server_sizes, server_off, server_after_server, other-server-after-server, nth-after-server, block_row, block_sizes, block_off, block_after_block, other-nth-after-block, server-after-block, off_row, off_sizes, server_after_off, nth_after_off}
+use Rattle.layout.proofs.RoomLaws.{server_row, server_sizes, server_off, server_after_server, other_server_after_server, nth_after_server, block_row, block_sizes, block_off, block_after_block, other_nth_after_block, server_after_block, off_row, off_sizes, server_after_off, nth_after_off}
 use Rattle.range.specs.Range.{legal_drives, masks_of, value_fits, server_fits, block_fits}
 use Rattle.range.proofs.Laws.{InRange}
 use Rattle.range.proofs.RecordLaws.{ServerIn, BlockIn, says_server, says_block}
@@ -37,10 +37,10 @@ pub record Whole (limits : List ℕ) (z : Sizes) (r : List ℕ) : Type 0 where
   pub sizes : sizes_of r ≡ z
 
 module _ (limits : List ℕ) (z : Sizes) where
-  pub server-kept
+  pub server_kept
       : (r : List ℕ) → Whole limits z r → (s p : ℕ) (v : Server) → s < z.slots → p < z.servers → ServerIn limits (masks_of z) v
       → Whole limits z (put_server z r s p v)
-  server-kept r w s p v h l i =
+  server_kept r w s p v h l i =
       let row = w.range.row in
       record {
         range =
@@ -57,11 +57,11 @@ module _ (limits : List ℕ) (z : Sizes) where
                   ∙ server_after_server z r row s p v h l)
                   ∙ says_server limits (masks_of z) v i)
                   (λ n.
-                  ap (λ (u : Server). server_fits (value_fits limits) (masks_of z) u) (other-server-after-server z r row s p v t q l m n)
+                  ap (λ (u : Server). server_fits (value_fits limits) (masks_of z) u) (other_server_after_server z r row s p v t q l m n)
                   ∙ w.range.servers t q k m);
               nths =
                   λ t j k m.
-                  ap (block_fits (value_fits limits)) (nth-after-server z r row s p v t j l m) ∙ w.range.nths t j k m;
+                  ap (block_fits (value_fits limits)) (nth_after_server z r row s p v t j l m) ∙ w.range.nths t j k m;
             };
         sizes = server_sizes z r row s p v ∙ w.sizes;
       }
@@ -79,7 +79,7 @@ module _ (limits : List ℕ) (z : Sizes) where
               off = ap (λ (m : ℕ). within m (legal_drives z)) (block_off z r row s d p b) ∙ w.range.off;
               servers =
                   λ t q m n.
-                  ap (λ (u : Server). server_fits (value_fits limits) (masks_of z) u) (server-after-block z r row s d p b t q n l k)
+                  ap (λ (u : Server). server_fits (value_fits limits) (masks_of z) u) (server_after_block z r row s d p b t q n l k)
                   ∙ w.range.servers t q m n;
               nths =
                   λ t j m n.
@@ -91,7 +91,7 @@ module _ (limits : List ℕ) (z : Sizes) where
                   ∙ block_after_block z r row s d p b h l k)
                   ∙ says_block limits b i)
                   (λ e.
-                  ap (block_fits (value_fits limits)) (other-nth-after-block z r row s d p b t j l k n e) ∙ w.range.nths t j m n);
+                  ap (block_fits (value_fits limits)) (other_nth_after_block z r row s d p b t j l k n e) ∙ w.range.nths t j m n);
             };
         sizes = block_sizes z r row s d p b ∙ w.sizes;
       }
@@ -115,9 +115,9 @@ module _ (limits : List ℕ) (z : Sizes) where
         sizes = off_sizes z r row m ∙ w.sizes;
       }
 
-  pub failure-kept
+  pub failure_kept
       : (r : List ℕ) → Whole limits z r → (p : ℕ) → p < z.servers → (k : ℕ) → k ≤ z.slots → Whole limits z (failed_below z p k r)
   unfolding failed_below
-  failure-kept r w p l zero h = w
-  failure-kept r w p l (suc k) h =
-      server-kept (failed_below z p k r) (failure-kept r w p l k (omega arith)) k p failed (omega arith) l (failed_in limits z)
+  failure_kept r w p l zero h = w
+  failure_kept r w p l (suc k) h =
+      server_kept (failed_below z p k r) (failure_kept r w p l k (omega arith)) k p failed (omega arith) l (failed_in limits z)

@@ -1,1 +1,2 @@
 // Laws of the whole step; there is no code here.
+#![tactic(auto)]

@@ -5,22 +5,18 @@ use native.Mathlib.Omega.{arith}
 use borrow.Author.Rules.{rules}
 use lib.ListN.{length, drop}
 use Rattle.record.proofs.Bytes.{low_more, low_none}
-use Rattle.record.proofs.decode.byte_at.Statement.{statement}
-use Rattle.record.proofs.decode.byte_at.Tie as tie
+use Rattle.record.proofs.decode.byte_at.Goals as goal
 
-returns : tie.Need-returns
-returns c =
-    let a = c.before.before.args in
+pub returns-then-bit-eq1 : goal.returns-then-bit-eq1
+returns-then-bit-eq1 c =
+    let a = c.args in
     let s = a.bytes.now in
     let h : a.at < length s = search rules in
     let one = low_more s a.at (a.at + 1) 0 h (omega arith) in
-    rw c.before.if1.true (omega (arith, one, low_none (drop (a.at + 1) s)))
+    rw c.if-bit-eq1.true (omega (arith, one, low_none (drop (a.at + 1) s)))
 
-returns-2 : tie.Need-returns-2
-returns-2 c =
-    let a = c.before.args in
+pub returns : goal.returns
+returns c =
+    let a = c.args in
     let none : a.bit ≡ 0 = omega arith in
     rw none (sym (low_none (drop a.at a.bytes.now)))
-
-pub byte-at-spec : {M : Type 1} → statement M
-byte-at-spec = tie.close (tie.spec (λ c. search rules) returns returns-2)

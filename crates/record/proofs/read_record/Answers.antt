@@ -1,8 +1,7 @@
 -- `read_record` meets its contract: the step of the fields that were found is the step that was read.
-use mathlib.Core.Path.{◌≡◌, refl, ◌∙◌, sym, ap}
+use mathlib.Core.Path.{◌≡◌, refl, ◌∙◌, ap}
 use mathlib.Core.List.{List}
 use Prim.Native.Nat.{ℕ}
-use borrow.Author.Rules.{rules}
 use Rattle.state.specs.declared.Step.{Step}
 use Rattle.record.specs.Fields.{step_of}
 use Rattle.record.specs.Read.{reading_of, found_in, found_of}
@@ -11,8 +10,7 @@ use Rattle.record.specs.declared.Found.{Found}
 use Rattle.record.specs.declared.Reading.TheVariants.{Decoded, Refused}
 use Rattle.record.specs.declared.Reading.{Reading}
 use Rattle.record.proofs.Steps.{step_fields}
-use Rattle.record.proofs.read_record.Statement.{statement}
-use Rattle.record.proofs.read_record.Tie as tie
+use Rattle.record.proofs.read_record.Goals as goal
 
 -- what is answered where this was found
 abbrev answer : Found → Reading
@@ -28,22 +26,9 @@ answers : (bytes : List ℕ) (f : Found) → f ≡ found_of bytes → answer f �
 unfolding found_of
 answers bytes f e = ap answer e ∙ same (reading_of bytes)
 
-returns : tie.Need-returns
-returns c =
-    let at-found = c.before.before in
-    ap (λ (s : Step). Decoded s at-found.f.given.0.1.0) c.step_of_lem.ensures
-    ∙ answers _ _ (sym at-found.f.given.1 ∙ at-found.before.before.read_fields.ensures)
+pub returns-in-Record : goal.returns-in-Record
+returns-in-Record c =
+    ap (λ (s : Step). Decoded s c.in-Record.used) c.step_of.ensures ∙ answers _ _ c.in-Record.ensures
 
-returns-2 : tie.Need-returns-2
-returns-2 c = answers _ _ (sym c.before.number.given.1 ∙ c.before.before.before.read_fields.ensures)
-
-pub read-record-spec : {M : Type 1} → statement M
-read-record-spec =
-    tie.close
-    (tie.spec
-    (λ c κs. search rules)
-    (λ c. search rules)
-    (λ c κs. search rules)
-    (λ c. search rules)
-    returns
-    returns-2)
+pub returns-in-Refused : goal.returns-in-Refused
+returns-in-Refused c = answers _ _ c.in-Refused.ensures

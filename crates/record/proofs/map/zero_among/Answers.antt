@@ -2,12 +2,8 @@
 use mathlib.Core.Bool.{or_assoc, or-false}
 use native.Mathlib.Nat.{div-div-eq-div-mul}
 use Rattle.record.specs.Map.{zero_among}
-use Rattle.record.proofs.map.zero_among.Statement.{statement}
-use Rattle.record.proofs.map.zero_among.Tie as tie
+use Rattle.record.proofs.map.zero_among.Goals as goal
 
-returns : tie.Need-returns
+pub returns : goal.returns
 unfolding zero_among
 returns c = simp (div-div-eq-div-mul, or_assoc, or-false)
-
-pub zero-among-spec : {M : Type 1} → statement M
-zero-among-spec = tie.close (tie.spec returns)
