@@ -1,5 +1,7 @@
 // The least own ballot by itself as an exported function, so that it is timed alone and compared for every ballot found.
 // The register's own calls are in register_c.
+#![tactic(auto)]
+
 ghost use Rattle.std.specs.Prelude.{◌≡◌};
 ghost use Rattle.ballot.specs.Ballot.{next_own};
 ghost use Rattle.ballot_c.specs.Number.{ballot_or_zero};

@@ -7,7 +7,7 @@ use Rattle.range.proofs.Laws.{range_says}
 use Rattle.catalogue.specs.declared.Listing.{Listing}
 use Rattle.catalogue.specs.Call.{catalogue_of}
 use Rattle.catalogue.specs.Listing.{catalogue_refusal, taken_of, skipped_of}
-use Rattle.catalogue.proofs.AnswerLaws.{accepted-is, accepted-says}
+use Rattle.catalogue.proofs.AnswerLaws.{accepted_is, accepted_says}
 use Rattle.register_c.specs.Packing.{packed, packed_listing}
 
 -- an accepted call without a word is its number alone
@@ -38,10 +38,10 @@ pub counts_back
     (packed_listing (catalogue_of room server out))
 counts_back room server out e =
     let answer = catalogue_of room server out in
-    let a = accepted-says room server out e in
+    let a = accepted_says room server out e in
     let fit = (range_says room a.range).row.fit in
     let slots = fit.slots in
     let most = a.at_most_slots in
     subst⁻¹ (λ (l : Listing). Counts (taken_of answer) (skipped_of answer) (packed_listing l))
-    (accepted-is room server out e)
+    (accepted_is room server out e)
     (few (taken_of answer) (skipped_of answer) (omega arith) a.at_most_taken)

@@ -1,6 +1,8 @@
 // The register's calls for C and Rust: numbers and slices only. A slice is a pointer and then a length. Each function
 // takes any input at all; its contract gives the answer, packed in one number, and every lent cell or byte by the
 // definitions of the call that it wraps. A step is given by its record.
+#![tactic(auto)]
+
 ghost use Rattle.std.specs.Prelude.{◌≡◌, length};
 ghost use Rattle.state.specs.Sizes.{sizes};
 ghost use Rattle.layout.specs.Places.{length_of, server_place, block_place};

@@ -1,7 +1,7 @@
 -- Lines put one after the other at the start of a buffer.
 use Prim.Native.Nat.{ℕ, ◌+◌, ◌*◌, ◌-◌, ◌≤◌}
 use native.Mathlib.Omega.{arith}
-use mathlib.Core.Path.{◌≡◌, ◌∙◌, sym, ap, subst}
+use mathlib.Core.Path.{◌≡◌, ◌∙◌, sym, ap}
 use mathlib.Core.List.{List, [], ◌++◌, append_assoc, append-nil}
 use lib.ListN.{length, take, drop, length-append, length-drop}
 use lib.Seq.{take_at, take_all, length-take-le}
@@ -62,8 +62,3 @@ more_servers room p {l} {m} {n} {at} {i} {j} a b =
       contents = both.contents ∙ ap (λ (t : List ℕ). take at l ++ t) (sym (server_more room p));
       few = omega (arith, both.few);
     }
-
-pub all_servers
-    : (room : List ℕ) {l m : List ℕ} {at i p count : ℕ} → Added l at (server_lines room p) m i (line_max * p) → p ≡ count
-    → Added l at (server_lines room count) m i (line_max * count)
-all_servers room {l} {m} {at} {i} a e = subst (λ (k : ℕ). Added l at (server_lines room k) m i (line_max * k)) e a

@@ -1,7 +1,7 @@
 -- The loop over the records: what has been printed with what is still to be printed is the whole text.
 use Prim.Native.Nat.{ℕ, ◌+◌, ◌*◌, ◌-◌, ◌≤◌, ◌<◌}
 use native.Mathlib.Omega.{arith}
-use mathlib.Core.Path.{◌≡◌, refl, ◌∙◌, sym, ap, subst}
+use mathlib.Core.Path.{◌≡◌, ◌∙◌, sym, ap, subst}
 use mathlib.Core.List.{List, ◌++◌, append_assoc, append-nil}
 use lib.ListN.{length, take, drop, length-drop}
 use lib.Seq.{drop-drop, drop-length}
@@ -26,9 +26,6 @@ pub record Going (input first room out : List ℕ) (at index place : ℕ) : Type
   pub far : 3 + 2 * index ≤ at
   pub within : at ≤ length input
   pub few : place ≤ step_max * index
-
-pub begins : (input room out : List ℕ) → 3 ≤ length input → Going input room room out 3 0 0
-begins input room out h = record { text = refl; cells = refl; far = omega arith; within = h; few = omega arith }
 
 module _ (input : List ℕ) (at : ℕ) (more : at < length input) where
   -- some bytes are left

@@ -15,7 +15,7 @@ use Rattle.history.specs.Run.{ran, history}
 use Rattle.history.proofs.Always.{at_last}
 use Rattle.catalogue.specs.Fold.{pieces, folded, start}
 use Rattle.catalogue.specs.declared.Listing.TheVariants.{Counted}
-use Rattle.catalogue.proofs.AnswerLaws.{accepted-is}
+use Rattle.catalogue.proofs.AnswerLaws.{accepted_is}
 use Rattle.register.specs.OneHistory.{commands_of, AllShow, OneHistory}
 use Rattle.register.proofs.Theorem.{one_history}
 use Rattle.transcript.specs.Lines.{server_line}
@@ -45,5 +45,5 @@ module _ (z : Sizes) (fits : sizes_fit z ≡ true) (steps : List Step) where
       let all = at_last (AllShow z commands) (opened_cells z) (all_steps steps) one.catalogues in
       let s = all p h (replicate pieces 0) (length-replicate {A = ℕ} pieces 0) in
       let room = ran (opened_cells z) (all_steps steps) in
-      let counts = accepted-is room p (replicate pieces 0) s.accepted ∙ ap₂ Counted s.taken s.skipped in
+      let counts = accepted_is room p (replicate pieces 0) s.accepted ∙ ap₂ Counted s.taken s.skipped in
       record { k = s.k; some = s.some; line = ap (counts_line p) counts }

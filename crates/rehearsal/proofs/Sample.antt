@@ -2,7 +2,7 @@
 use Prim.Native.Nat.{ℕ, ◌<◌}
 use native.Mathlib.Omega.{arith}
 use mathlib.Core.List.{List, [], ◌∷◌}
-use mathlib.Core.Path.{◌≡◌, refl, sym}
+use mathlib.Core.Path.{◌≡◌, refl}
 use lib.ListN.{length}
 use lib.Count.{ones_in, ones}
 use Rattle.command.specs.Command.{limit_of, hoard_fits, is_command}
@@ -59,7 +59,7 @@ no_byte = refl
 
 pub too_many : (input : List ℕ) → input_max < length input → rehearsal input ≡ bytes "open refused 2\n"
 unfolding digits_in digits open_line
-too_many input h = sym (too_long input (omega arith) h)
+too_many input h = too_long input (omega arith) h
 
 pub bad_sizes : rehearsal (0 ∷ 1 ∷ 1 ∷ []) ≡ bytes "open refused 1\n"
 unfolding sizes_fit digits_in digits open_line rehearsal run_text

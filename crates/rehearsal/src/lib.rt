@@ -1,4 +1,6 @@
 // What the program rehearse prints for an input, put into lent bytes.
+#![tactic(auto)]
+
 ghost use Rattle.std.specs.Prelude.{◌≡◌, ◌+◌, ◌*◌, ◌≤◌, length, drop};
 ghost use Rattle.transcript.specs.Lines.{line_max};
 ghost use Rattle.layout.specs.Places.{longest_room, length_of};
@@ -22,6 +24,7 @@ const STEP_MAX: usize = 27;
 pub const TEXT_MAX: usize = STEP_MAX * RECORDS_MAX + 4 * transcript::LINE_MAX;
 
 // Puts the text for an input at the start of out and answers its length.
+#[tactic(auto, using(crate::proofs::OpenedLaws::has_place, crate::proofs::OpenedLaws::only_line, crate::proofs::OpenedLaws::too_short, crate::proofs::OpenedLaws::too_long, crate::proofs::OpenedLaws::just_right, transcript::proofs::LineLaws::open_max))]
 pub fn rehearse(input: &[u8], cells: &mut [u32; CELLS_MAX], out: &mut [u8; TEXT_MAX]) -> usize
     ensures { Holds out.new result (rehearsal input.now) }
 {
@@ -45,6 +48,7 @@ fn run(input: &[u8], cells: &mut [u32], out: &mut [u8]) -> usize
 }
 
 // Opens the room, then prints the lines of the records and of the servers.
+#[tactic(auto, using(layout::proofs::PlaceLaws::fit_of, crate::proofs::OpenedLaws::opened_fits))]
 fn play(z: Sizes, input: &[u8], room: &mut [u32], out: &mut [u8]) -> usize
     requires { Readable input.now × (length room.old ≡ length_of z) × (length out.old ≡ text_max) }
     ensures { Holds out.new result (run_text z (script (drop 3 input.now))) }
@@ -77,6 +81,7 @@ fn wide(byte: u8) -> u32
 }
 
 // Takes the steps of the records, a line for each, until the input ends or a record can't be read.
+#[tactic(auto, using(crate::proofs::Going::ends))]
 fn steps(input: &[u8], room: &mut [u32], out: &mut [u8]) -> usize
     requires { Readable input.now × (length out.old ≡ text_max) }
     ensures { Taken input.now room.old room.new out.new result }
@@ -101,6 +106,7 @@ fn steps(input: &[u8], room: &mut [u32], out: &mut [u8]) -> usize
 }
 
 // A line for each of the first servers.
+#[tactic(auto, using(crate::proofs::BufferLaws::no_servers, crate::proofs::BufferLaws::more_servers))]
 fn servers(count: u32, room: &[u32], out: &mut [u8], from: usize) -> usize
     requires { from + line_max * count ≤ length out.old }
     ensures { Added out.old from (server_lines room.now count) out.new result (line_max * count) }

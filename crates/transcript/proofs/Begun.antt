@@ -2,10 +2,9 @@
 use Prim.Native.Nat.{ℕ, ◌+◌, ◌≤◌}
 use native.Mathlib.Omega.{arith}
 use mathlib.Core.Path.{◌≡◌, refl, ◌∙◌, sym}
-use mathlib.Core.Bool.{Bool, true, false, not}
+use mathlib.Core.Bool.{Bool, true}
 use mathlib.Core.List.{List, [], ◌++◌}
 use lib.ListN.{length}
-use borrow.Author.Tests.{not-false}
 use Rattle.transcript.specs.Lines.{line_max, Put, has_room, Printed}
 use Rattle.transcript.proofs.PutLaws.{put_none, put_then, length-put}
 use Rattle.transcript.proofs.LineLaws.{room_for, printed}
@@ -21,9 +20,9 @@ pub record Begun (now : List ℕ) (next left : ℕ) : Type 0 where
   pub room : next + left ≤ length now
 
 -- nothing is put yet, and the test for room answered r
-abbrev pub begins : (l : List ℕ) (at : ℕ) {r : Bool} → r ≡ has_room (length l) at → not r ≡ false → Begun l at line_max
+abbrev pub begins : (l : List ℕ) (at : ℕ) {r : Bool} → r ≡ has_room (length l) at → r ≡ true → Begun l at line_max
 begins l at {r} e f =
-    let wide : has_room (length l) at ≡ true = sym e ∙ not-false r f in
+    let wide : has_room (length l) at ≡ true = sym e ∙ f in
     let room : at + line_max ≤ length l = room_for (length l) at wide in
     let none : Put l at [] l at = record { place = omega arith; contents = (put_none l at (omega arith)).contents } in
     record { buffer = l; at = at; wide = wide; text = []; put = none; same = refl; room = room }

@@ -2,11 +2,11 @@
 use Prim.Native.Nat.{ℕ, ◌+◌, ◌-◌, ◌^◌, ◌≤◌, ◌<◌}
 use native.Mathlib.Omega.{arith}
 use mathlib.Core.Path.{◌≡◌, ◌∙◌, sym, ap, subst}
-use mathlib.Core.Bool.{Bool, true, false, not, cond}
+use mathlib.Core.Bool.{Bool, true, false, cond}
 use mathlib.Core.List.{List, ◌++◌, append_assoc}
 use lib.ListN.{length, length-append}
 use lib.Dec.{leb}
-use borrow.Author.Tests.{le-leb, lt-leb, leb-true, leb-false, not-true}
+use borrow.Author.Tests.{le-leb, lt-leb, leb-true, leb-false}
 use Rattle.lemmas.proofs.Tests.{by_test, same_test}
 use Rattle.state.specs.declared.Answer.{Answer}
 use Rattle.state.specs.declared.Answer.TheVariants.{Done, Outbid, Chosen, Committed, Refused}
@@ -42,9 +42,9 @@ printed {l} {m} {at} {next} {line} room p =
     }
 
 pub unprinted
-    : {l line : List ℕ} {at : ℕ} {r : Bool} → r ≡ has_room (length l) at → not r ≡ true → Printed l at line l at
+    : {l line : List ℕ} {at : ℕ} {r : Bool} → r ≡ has_room (length l) at → r ≡ false → Printed l at line l at
 unprinted {l} {line} {at} {r} e f =
-    let none : has_room (length l) at ≡ false = sym e ∙ not-true r f in
+    let none : has_room (length l) at ≡ false = sym e ∙ f in
     record {
       place = sym (ap (λ (b : Bool). cond b (at + length line) at) none);
       contents = sym (ap (λ (b : Bool). cond b (placed l at line) l) none);

@@ -1,5 +1,7 @@
 // The lines that the program rehearse prints. A public function puts one line into a lent buffer and answers the place
 // after it; where the longest line would have no room, it changes nothing and answers the place that it was given.
+#![tactic(auto)]
+
 ghost use Rattle.std.specs.Prelude.{◌≡◌, ◌+◌, ◌≤◌, ◌++◌, length};
 ghost use Rattle.transcript.specs.Text.{digits};
 ghost use Rattle.transcript.specs.Lines.{answer_text, step_line, server_line, open_line, has_room, Put, Printed};
@@ -81,6 +83,7 @@ fn put_field(out: &mut [u8], at: usize, label: &[u8], number: u32) -> usize
 }
 
 // The decimal digits of a number: first those of its tenth, then the last.
+#[tactic(auto, using(crate::proofs::DigitLaws::one_length, crate::proofs::NumberLaws::one_placed))]
 fn put_number(out: &mut [u8], at: usize, number: u32) -> usize
     requires { at + length (digits number) ≤ length out.old }
     ensures { Put out.old at (digits number) out.new result }
