@@ -1,12 +1,12 @@
 #!/bin/sh
 # Builds the example and the tests against the proved library with the warnings on, runs them, and compares what the
 # example prints. The header must be taken by C99 and C++ too.
-# The library is made at the repository's root by `rt staticlib register_c`, or lies in the folder REGISTER_LIB_DIR.
+# The library is made by `rt lib` in the folder crates/register_c, or lies in the folder REGISTER_LIB_DIR.
 set -eu
 cd "$(dirname "$0")"
-library=${REGISTER_LIB_DIR:-../../target/staticlib}/libregister_c.a
+library=${REGISTER_LIB_DIR:-../../crates/register_c/out}/libregister_c.a
 if [ ! -f "$library" ]; then
-    echo "embed/c: the library is missing; run 'rt staticlib register_c' at the repository's root" >&2
+    echo "embed/c: the library is missing; run 'rt lib' in the folder crates/register_c" >&2
     exit 1
 fi
 mkdir -p target

@@ -1,7 +1,7 @@
 /* The hoard register for C and C++.
  *
- * Link with libregister_c.a, which `rt staticlib register_c` writes to
- * target/staticlib. It needs nothing but memset of the C library.
+ * Link with libregister_c.a, which `rt lib` in the folder crates/register_c writes to
+ * its folder out. It needs nothing but memset of the C library.
  *
  * A room is a row of 32-bit cells that the caller lends. Every call judges every
  * cell that it is lent, so the cells may come from anywhere. A call that is refused

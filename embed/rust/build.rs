@@ -1,5 +1,5 @@
 //! Links the proved library: the one in the folder that REGISTER_LIB_DIR names, or
-//! else the one that `rt staticlib register_c` builds in this repository.
+//! else the one that `rt lib` builds in this repository's crate `register_c`.
 
 use std::env;
 use std::path::{Path, PathBuf};
@@ -54,10 +54,9 @@ fn root() -> PathBuf {
 
 /// Proves the library and writes it. `rt` does nothing twice.
 fn built(root: &Path) -> PathBuf {
-    for file in ["crates.txt", "crates"] {
-        println!("cargo:rerun-if-changed={}", root.join(file).display());
-    }
-    let made = Command::new("rt").args(["staticlib", "register_c"]).current_dir(root).output();
+    watch(root);
+    let folder = root.join("crates/register_c");
+    let made = Command::new("rt").arg("lib").current_dir(&folder).output();
     let made = match made {
         Ok(made) => made,
         Err(error) => stop(&format!(
@@ -67,13 +66,31 @@ fn built(root: &Path) -> PathBuf {
     if !made.status.success() {
         eprintln!("{}", String::from_utf8_lossy(&made.stdout));
         eprintln!("{}", String::from_utf8_lossy(&made.stderr));
-        stop("`rt staticlib register_c` failed: its output stands above");
+        stop("`rt lib` failed in crates/register_c: its output stands above");
     }
-    let archive = root.join("target/staticlib").join(ARCHIVE);
+    let archive = folder.join("out").join(ARCHIVE);
     if !archive.is_file() {
-        stop(&format!("`rt staticlib register_c` wrote no {}", archive.display()));
+        stop(&format!("`rt lib` wrote no {}", archive.display()));
     }
     archive
+}
+
+/// When these files change, the library is built anew. What `rt` itself writes, in the
+/// folder `out` of each crate, is not among them.
+fn watch(root: &Path) {
+    println!("cargo:rerun-if-changed={}", root.join("crates.txt").display());
+    let crates = match std::fs::read_dir(root.join("crates")) {
+        Ok(crates) => crates,
+        Err(error) => stop(&format!("the folder crates could not be read: {error}")),
+    };
+    for folder in crates.flatten() {
+        for part in ["src", "specs", "proofs"] {
+            let part = folder.path().join(part);
+            if part.is_dir() {
+                println!("cargo:rerun-if-changed={}", part.display());
+            }
+        }
+    }
 }
 
 /// Ends the build with a message.
