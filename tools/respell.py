@@ -11,6 +11,7 @@ between backticks, in the pages for people.
 """
 import os
 import re
+import sys
 
 HERE = os.path.dirname(os.path.realpath(__file__))
 TOP = os.path.dirname(HERE)
@@ -54,6 +55,12 @@ def paths():
 
 
 def main():
+    if len(sys.argv) > 1:
+        print(__doc__)
+        sys.exit(0 if sys.argv[1:] in (["-h"], ["--help"]) else 2)
+    # A second time would give definitions the names of lemmas.
+    if os.path.exists(os.path.join(TOP, "docs", "PORT.md")):
+        sys.exit("respell: this tree has been turned already (docs/PORT.md)")
     names = table()
     for path in paths():
         turn = {".antt": respelled, ".rt": in_source, ".edit": in_edit, ".md": in_page}.get(os.path.splitext(path)[1])
