@@ -2,11 +2,12 @@
 #![tactic(auto)]
 
 ghost use Rattle.std.specs.Prelude.{◌≡◌, ◌≤◌};
+ghost use Rattle.quorum.specs.Marks.{stands};
 ghost use Rattle.quorum.specs.Sets.{gathered};
 ghost use Rattle.synod.specs.Changes.{read_bit};
 ghost use Rattle.synod.specs.Rules.{recalled_on, others_read, complete_on};
 
-use quorum::{has_mark, with_mark};
+use quorum::{gather, has_mark};
 use state::Server;
 
 // The bit of server q's block on drive d in the read marks. A step brings each number in one byte.
@@ -17,49 +18,33 @@ pub fn read_bit(d: u32, q: u32) -> u32
     4 * d + q
 }
 
+// Whether server q's block on drive d is marked in the read marks, a cell, which has no bit 32 or above.
+#[tactic(auto, using(quorum::proofs::MarkLaws::stands_beyond))]
+fn was_read(read: u32, d: u32, q: u32) -> bool
+    ensures { result ≡ stands read (read_bit d q) }
+{
+    d < 32 && q < 32 && has_mark(read, read_bit(d, q))
+}
+
 // The drives on which server p's own block was recalled.
 pub fn recalled(v: Server, p: u8, drives: u32) -> u32
-    requires { drives ≤ 7 }
     ensures { result ≡ gathered drives (recalled_on v p) }
 {
-    let mut found = 0;
-    let mut d = 0;
-    while d < drives {
-        if has_mark(v.read, read_bit(d, p as u32)) {
-            found = with_mark(found, d);
-        }
-        d += 1;
-    }
-    found
+    gather(drives, |d| was_read(v.read, d, p as u32))
 }
 
 // The drives written with every other server's block read there.
 pub fn complete(servers: u32, v: Server, p: u8, drives: u32) -> u32
-    requires { (servers ≤ 4) × (drives ≤ 7) }
     ensures { result ≡ gathered drives (complete_on servers v p) }
 {
-    let mut found = 0;
-    let mut d = 0;
-    while d < drives {
-        if has_mark(v.written, d) & others_read(servers, v, p, d) {
-            found = with_mark(found, d);
-        }
-        d += 1;
-    }
-    found
+    gather(drives, |d| {
+        has_mark(v.written, d) && others_read(servers, v, p, d)
+    })
 }
 
-#[tactic(auto, using(quorum::proofs::AllBelow::loop_goes_on))]
+#[tactic(auto, using(quorum::proofs::AllBelow::all_listed))]
 fn others_read(servers: u32, v: Server, p: u8, d: u32) -> bool
-    requires { (servers ≤ 4) × (d ≤ 7) }
     ensures { result ≡ others_read servers v p d }
 {
-    let mut q = 0;
-    while q < servers {
-        if !((q == (p as u32)) | has_mark(v.read, read_bit(d, q))) {
-            return false;
-        }
-        q += 1;
-    }
-    true
+    (0..servers).all(|q| q == p as u32 || was_read(v.read, d, q))
 }

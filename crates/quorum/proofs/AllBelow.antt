@@ -1,9 +1,10 @@
 -- Laws of all_below: read at one of the numbers below n, shown at each, of two tests, and by a loop over them.
 use Prim.Native.Nat.{ℕ, zero, suc, ◌+◌, ◌<◌, ◌≤◌}
 use mathlib.Core.Path.{◌≡◌, refl, ◌∙◌, sym, ap}
-use mathlib.Core.Bool.{Bool, true, false, ◌&&◌, and-false, true≢false}
+use mathlib.Core.Bool.{Bool, true, false, ◌&&◌, and-false, and-true, and_assoc, true≢false}
 use native.Mathlib.Omega.{arith}
 use native.Mathlib.Numerals.{add-one}
+use Rattle.std.specs.List.{list_all, range_with_len}
 use Rattle.quorum.specs.Sets.{all_below}
 use Rattle.lemmas.proofs.Tests.{by_test, and_left, and_right, and_intro}
 
@@ -60,3 +61,15 @@ module _ (n : ℕ) (f : ℕ → Bool) where
 
   pub loop_ends : (i : ℕ) → Passed n f i → n ≤ i → true ≡ all_below n f
   loop_ends i h l = sym (ap (λ (k : ℕ). all_below k f) (omega arith) ∙ h.1)
+
+-- what `all` finds over a range of numbers
+list_more : (f : ℕ → Bool) (n a j : ℕ) → a + n ≡ j → list_all f (range_with_len a (suc n)) ≡ (list_all f (range_with_len a n) && f j)
+list_more f zero a j e = and-true (f a) ∙ ap f (omega arith)
+list_more f (suc n) a j e =
+    ap (λ (t : Bool). f a && t) (list_more f n (a + 1) j (omega arith))
+    ∙ sym (and_assoc (f a) (list_all f (range_with_len (a + 1) n)) (f j))
+
+pub all_listed : (n : ℕ) (f : ℕ → Bool) → list_all f (range_with_len 0 n) ≡ all_below n f
+all_listed zero f = sym (all_none f)
+all_listed (suc n) f =
+    list_more f n 0 n (omega arith) ∙ ap (λ (t : Bool). t && f n) (all_listed n f) ∙ sym (all_suc n f)

@@ -1,5 +1,5 @@
 -- Laws of the cell that a set of drives is gathered in, as a loop over the drives makes it.
-use Prim.Native.Nat.{ℕ, zero, suc, ◌+◌, ◌^◌, ◌<◌, ◌≤◌}
+use Prim.Native.Nat.{ℕ, zero, suc, ◌+◌, ◌^◌, ◌<◌, ◌≤◌, min}
 use mathlib.Core.Path.{◌≡◌, refl, ◌∙◌, sym, ap}
 use mathlib.Core.Bool.{Bool, true, false, cond}
 use native.Mathlib.Omega.{arith}
@@ -73,3 +73,26 @@ stands_gathered (suc n) f d h = go (native.Mathlib.Decide.dec_lt d n) (stands_ga
 -- a majority of a set is judged on the cell that it was gathered in
 pub majority_gathered : (n : ℕ) (f : ℕ → Bool) → majority n (stands (gathered n f)) ≡ majority n f
 majority_gathered n f = majority_same n (stands (gathered n f)) f (stands_gathered n f)
+
+-- one turn of a loop that gathers a set of drives in a cell: the bit of drive d is set where the set has it
+module _ (d : ℕ) (set : ℕ → Bool) {found next : ℕ} (so_far : found ≡ gathered d set) where
+  pub joins : d < 32 → set d ≡ true → next ≡ marked found d → next ≡ gathered (d + 1) set
+  joins small is n = n ∙ ap (λ (m : ℕ). marked m d) so_far ∙ gathered_more d set small is
+
+  pub stays : set d ≡ false → next ≡ found → next ≡ gathered (d + 1) set
+  stays is n = n ∙ so_far ∙ gathered_past d set is
+
+-- a set without 32 and above is gathered below 32
+pub gathered_small : (n : ℕ) (f : ℕ → Bool) → ((d : ℕ) → 32 ≤ d → f d ≡ false) → gathered (min n 32) f ≡ gathered n f
+gathered_small zero f h = refl
+gathered_small (suc n) f h = go (native.Mathlib.Decide.dec_lt n 32) (gathered_small n f h)
+  where
+    go : Dec (n < 32) → gathered (min n 32) f ≡ gathered n f → gathered (min (suc n) 32) f ≡ gathered (suc n) f
+    go (yes l) rest = ap (λ (k : ℕ). gathered k f) (omega arith)
+    go (no l) rest =
+        let e : min (suc n) 32 ≡ min n 32 = omega arith in
+        let s : n + 1 ≡ suc n = omega arith in
+        ap (λ (k : ℕ). gathered k f) e
+        ∙ rest
+        ∙ gathered_past n f (h n (omega arith))
+        ∙ ap (λ (k : ℕ). gathered k f) s

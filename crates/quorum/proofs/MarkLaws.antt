@@ -4,9 +4,9 @@ use mathlib.Core.Path.{◌≡◌, refl, ◌∙◌, sym, ap}
 use mathlib.Core.Bool.{Bool, true, false, not, ◌&&◌, cond, true≢false}
 use native.Mathlib.Omega.{arith}
 use native.Mathlib.Decide.{dec_lt}
-use native.Mathlib.Nat.{add-div_right, add-mul-div_right, div-eq_of_lt, pow-suc, mod-lt, div-add-mod'}
+use native.Mathlib.Nat.{add-div_right, add-mul-div_right, div-eq_of_lt, pow-suc, mod-lt, div-add-mod', lt_of_lt_of_le}
 use lib.Dec.{eqb, ltb}
-use lib.Pow.{pow_pos, pow-add, shr-shr}
+use lib.Pow.{pow_pos, pow-add, pow_mono, shr-shr}
 use lib.Bits.{bit_or, or_block, or_step, or_zero_r, or_lt}
 use borrow.Author.Tests.{eq-eqb, ne_eqb, eqb-true, eqb-false, lt-ltb, le-ltb}
 use Rattle.quorum.specs.Marks.{stands, marked, unmarked}
@@ -40,6 +40,10 @@ same_digit m n i e = ap (λ (x : ℕ). eqb x 1) e
 -- a cell below 2 ^ i has no bit i
 pub stands_small : (m i : ℕ) → m < 2 ^ i → stands m i ≡ false
 stands_small m i h = of_no_digit m i (ap (λ (x : ℕ). x % 2) (div-eq_of_lt h))
+
+-- a cell has no bit 32 or above
+pub stands_beyond : (m i : ℕ) → m < 2 ^ 32 → 32 ≤ i → stands m i ≡ false
+stands_beyond m i f h = stands_small m i (lt_of_lt_of_le f (pow_mono h))
 
 pub stands-zero : (i : ℕ) → stands 0 i ≡ false
 stands-zero i = stands_small 0 i (pow_pos i)
@@ -90,6 +94,14 @@ at_least m i e = go (dec_lt m (2 ^ i))
     go : Dec (m < 2 ^ i) → 2 ^ i ≤ m
     go (yes l) = absurd (true≢false (sym e ∙ stands_small m i l))
     go (no l) = omega arith
+
+-- a bit that stands in a 32-bit cell is below 32
+pub low_bit : (m i : ℕ) → m < 2 ^ 32 → stands m i ≡ true → i < 32
+low_bit m i f e = go (dec_lt i 32)
+  where
+    go : Dec (i < 32) → i < 32
+    go (yes l) = l
+    go (no l) = absurd (true≢false (sym e ∙ stands_beyond m i f (omega arith)))
 
 pub sub_same : (m i : ℕ) → stands m i ≡ true → stands (m - 2 ^ i) i ≡ false
 sub_same m i e =

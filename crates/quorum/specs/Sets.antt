@@ -1,5 +1,5 @@
 -- Sets of drives, their size, and majority (SPEC, "The room in memory").
-use Rattle.std.specs.Prelude.{ℕ, zero, suc, ◌+◌, ◌*◌, ◌^◌, Bool, true, not, ◌&&◌, ◌||◌, cond, eqb, ltb}
+use Rattle.std.specs.Prelude.{ℕ, zero, suc, ◌+◌, ◌*◌, ◌^◌, ◌<◌, ◌≡◌, Bool, true, not, ◌&&◌, ◌||◌, cond, eqb, ltb}
 use Rattle.quorum.specs.Marks.{stands}
 
 -- f holds of every number below n
@@ -16,6 +16,10 @@ size (suc n) set = size n set + cond (set n) 1 0
 unfoldable pub gathered : ℕ → (ℕ → Bool) → ℕ
 gathered zero set = 0
 gathered (suc n) set = gathered n set + cond (set n) (2 ^ n) 0
+
+-- what a test answers of a number below 32, which may be a bit of a cell, is what the set says
+abbrev pub Tells : (ℕ → Bool → Type 0) → (ℕ → Bool) → Type 0
+Tells answers set = (d : ℕ) (r : Bool) → d < 32 → answers d r → r ≡ set d
 
 -- more than half of the drives, or exactly half of them with drive 0 in the set; without drives there is no drive 0
 unfoldable pub majority : ℕ → (ℕ → Bool) → Bool

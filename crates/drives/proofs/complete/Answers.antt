@@ -1,25 +1,19 @@
--- `drives::complete` meets its contract: the drives passed so far are gathered.
-use borrow.Author.Rules.{rules}
+-- `drives::complete` meets its contract: the written marks have none of drive 32 or above.
+use Prim.Native.Nat.{◌<◌, ◌^◌}
+use mathlib.Core.Path.{◌∙◌, ap}
+use mathlib.Core.Bool.{Bool, ◌&&◌}
 use native.Mathlib.Omega.{arith}
-use mathlib.Core.Path.{◌≡◌, ◌∙◌, sym}
-use mathlib.Core.Bool.{◌&&◌}
-use Rattle.drives.proofs.Turn.{joins, stays}
-use Rattle.quorum.proofs.Gathered.{gathered-zero}
-use Rattle.synod.specs.Rules.{complete_on}
+use borrow.Author.Rules.{rules}
+use Rattle.quorum.proofs.Gathered.{gathered_small}
+use Rattle.quorum.proofs.MarkLaws.{stands_beyond}
+use Rattle.synod.specs.Rules.{complete_on, others_read}
 use Rattle.drives.proofs.complete.Goals as goal
-use Rattle.drives.proofs.complete.Goals.{then-has_mark-others_read, else-has_mark-others_read}
 
-pub loop-d-init : goal.loop-d-init
-loop-d-init c = (search rules, sym (gathered-zero (complete_on c.args.servers c.args.v c.args.p)))
-
-pub loop-d-preserved : goal.loop-d-preserved
-loop-d-preserved c =
+pub returns : goal.returns
+returns c =
     let a = c.args in
     let set = complete_on a.servers a.v a.p in
-    let test : set c.loop-d.d ≡ (c.has_mark.result && c.others_read.result) = cc in (
-      search rules,
-      elim c.if-has_mark-others_read.branch [
-        | then-has_mark-others_read w ↦ joins c.loop-d.d set c.loop-d.invariant.1 (omega arith) (cc test) (w.found-is ∙ w.with_mark-found.ensures)
-        | else-has_mark-others_read w ↦ stays c.loop-d.d set c.loop-d.invariant.1 (cc test) w.found-is
-      ],
-    )
+    let small : a.v.written < 2 ^ 32 = omega arith in
+    c.gather.ensures set (λ d r l is. search rules)
+    ∙ gathered_small a.drives set
+    (λ d h. ap (λ (b : Bool). b && others_read a.servers a.v a.p d) (stands_beyond a.v.written d small h))

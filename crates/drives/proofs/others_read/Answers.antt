@@ -1,14 +1,16 @@
--- `drives::others_read` meets its contract: the servers passed so far are p or were read.
+-- `drives::others_read` meets its contract: `all` looks at each of the servers.
+use mathlib.Core.Path.{◌∙◌}
 use native.Mathlib.Omega.{arith}
-use Rattle.std.proofs.lemmas.Bool.Decides.{nat_tests}
-use Rattle.quorum.proofs.AllBelow.{loop_begins, loop_returns}
+use borrow.Author.Rules.{rules}
+use Rattle.std.proofs.lemmas.Iterator.{YieldsList-from_range}
+use Rattle.std.proofs.lemmas.Iterator.Search.{all_from_yields_List}
+use Rattle.quorum.proofs.AllBelow.{all_listed}
 use Rattle.synod.specs.Rules.{other_read}
 use Rattle.drives.proofs.others_read.Goals as goal
 
-pub loop-q-init : goal.loop-q-init
-loop-q-init c = loop_begins c.args.servers (other_read c.args.v c.args.p c.args.d)
-
-pub returns-then-not-q-p : goal.returns-then-not-q-p
-returns-then-not-q-p c =
-    loop_returns c.args.servers (other_read c.args.v c.args.p c.args.d) c.loop-q.q c.loop-q-test.true
-    (grind (arith, nat_tests))
+pub returns : goal.returns
+returns c =
+    let a = c.args in
+    let test = other_read a.v a.p a.d in
+    all_from_yields_List test _ _ c.all.result c.all.ensures.ran (YieldsList-from_range 0 a.servers a.servers (search rules) (omega arith)) (λ q r f k. search rules)
+    ∙ all_listed a.servers test

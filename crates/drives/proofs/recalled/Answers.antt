@@ -1,24 +1,17 @@
--- `drives::recalled` meets its contract: the drives passed so far are gathered.
-use borrow.Author.Rules.{rules}
+-- `drives::recalled` meets its contract: the read marks have none of drive 32 or above.
+use Prim.Native.Nat.{◌<◌, ◌^◌}
+use mathlib.Core.Path.{◌∙◌}
 use native.Mathlib.Omega.{arith}
-use mathlib.Core.Path.{◌≡◌, ◌∙◌, sym}
-use Rattle.drives.proofs.Turn.{joins, stays}
-use Rattle.quorum.proofs.Gathered.{gathered-zero}
+use borrow.Author.Rules.{rules}
+use Rattle.quorum.proofs.Gathered.{gathered_small}
+use Rattle.quorum.proofs.MarkLaws.{stands_beyond}
+use Rattle.synod.specs.Changes.{read_bit}
 use Rattle.synod.specs.Rules.{recalled_on}
 use Rattle.drives.proofs.recalled.Goals as goal
-use Rattle.drives.proofs.recalled.Goals.{then-has_mark, else-has_mark}
 
-pub loop-d-init : goal.loop-d-init
-loop-d-init c = (search rules, sym (gathered-zero (recalled_on c.args.v c.args.p)))
-
-pub loop-d-preserved : goal.loop-d-preserved
-loop-d-preserved c =
-    let a = c.args in
-    let set = recalled_on a.v a.p in
-    let test : set c.loop-d.d ≡ c.has_mark.result = cc in (
-      search rules,
-      elim c.if-has_mark.branch [
-        | then-has_mark w ↦ joins c.loop-d.d set c.loop-d.invariant.1 (omega arith) (cc test) (w.found-is ∙ w.with_mark-found.ensures)
-        | else-has_mark w ↦ stays c.loop-d.d set c.loop-d.invariant.1 (cc test) w.found-is
-      ],
-    )
+pub returns : goal.returns
+returns c =
+    let set = recalled_on c.args.v c.args.p in
+    let small : c.args.v.read < 2 ^ 32 = omega arith in
+    c.gather.ensures set (λ d r l is. search rules)
+    ∙ gathered_small c.args.drives set (λ d h. stands_beyond c.args.v.read (read_bit d c.args.p) small (omega arith))
