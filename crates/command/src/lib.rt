@@ -5,6 +5,9 @@ ghost use Rattle.std.specs.Prelude.{◌≡◌};
 ghost use Rattle.command.specs.Command.{kind_of, piece_of, hoard_of, is_command, cabinet_limits};
 ghost use Rattle.command.specs.Tops.{byte_of, tops_of, value_by};
 
+// The kinds of command, as an enum.
+pub mod kinds;
+
 // The largest hoard of cabinets 0 to 7.
 pub const LIMITS: [u32; 8] = [255, 255, 200, 200, 120, 120, 60, 60];
 
@@ -56,16 +59,15 @@ pub fn is_command(limits: &[u32; 8], v: u32) -> bool
 
 // The table by which all cells of a room are judged: the largest hoard of enter and of move by kind and cabinet, that is
 // at v / 2048, and 0 where there is no such command. Made once for a call.
+#[tactic(auto, using(crate::proofs::TopLaws::tops_more, crate::proofs::TopLaws::tops_all), unfolding(crate::proofs::TopLaws::tops_after))]
 pub fn tops_of(limits: &[u32; 8]) -> [u8; 96]
     ensures { result ≡ tops_of limits.now }
 {
     let mut tops = [0; 96];
-    let mut i = 0;
-    while i < 8 {
-        let top = byte(limits[i]);
+    for (i, limit) in limits.iter().enumerate() {
+        let top = byte(*limit);
         tops[32 + i] = top;
         tops[64 + i] = top;
-        i += 1;
     }
     tops
 }
@@ -74,7 +76,7 @@ pub fn tops_of(limits: &[u32; 8]) -> [u8; 96]
 fn byte(limit: u32) -> u8
     ensures { result ≡ byte_of limit }
 {
-    if limit < 255 { limit as u8 } else { 255 }
+    limit.min(255) as u8
 }
 
 // Whether v is 0 or a command, by one look into the table.
