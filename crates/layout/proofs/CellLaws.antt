@@ -1,12 +1,14 @@
 -- What is read after cells are stored: at the place itself, and at any place apart from it.
 use Prim.Native.Nat.{ℕ, zero, suc, ◌+◌, ◌<◌, ◌≤◌}
 use mathlib.Core.Path.{◌≡◌, refl, ◌∙◌, sym, ap}
-use mathlib.Core.List.{List, [], ◌∷◌}
+use mathlib.Core.List.{List, [], ◌∷◌, ◌++◌}
 use mathlib.Core.Logic.{◌⊎◌, ⊎_elim}
 use native.Mathlib.Omega.{arith}
 use native.Mathlib.Nat.{add-zero}
-use lib.ListN.{length, get_or, set, length-set}
-use lib.Seq.{get_or-set_same, get_or-set_other}
+use lib.ListN.{length, get_or, set, take, drop, length-set}
+use Rattle.std.proofs.lemmas.List.{get_or-take, get_or-drop, append_assoc, length-drop}
+use borrow.Rule.Slice.PartMut.{put_mid}
+use lib.Seq.{sets, sets-eq, drop-drop, length-take-le, get_or-set_same, get_or-set_other}
 use Rattle.state.specs.declared.Block.{Block}
 use Rattle.state.specs.declared.Server.{Server}
 use Rattle.layout.specs.Places.{server_length, block_length}
@@ -166,3 +168,53 @@ unfolding Same Apart
 apart_same r at xs b n h i l =
     put_outside r at xs (b + i)
     (⊎_elim (λ e. mathlib.Core.Logic.inr (omega arith)) (λ e. mathlib.Core.Logic.inl (omega arith)) h)
+
+-- a record or a block is read from its own cells alone
+part_cell : (r : List ℕ) (at n i j : ℕ) → i < n → at + i ≡ j → get_or (take n (drop at r)) i 0 ≡ get_or r j 0
+part_cell r at n i j h e = get_or-take n (drop at r) i 0 h ∙ get_or-drop at r i 0 ∙ ap (λ (k : ℕ). get_or r k 0) e
+
+pub server_moved : (r : List ℕ) (at : ℕ) → server_in (take server_length (drop at r)) 0 ≡ server_in r at
+server_moved r at =
+    let cell : (i j : ℕ) → i < server_length → at + i ≡ j → get_or (take server_length (drop at r)) i 0 ≡ get_or r j 0 = part_cell r at server_length in
+    let c0 = cell 0 at (omega arith) (omega arith) in
+    let c1 = cell 1 (at + 1) (omega arith) (omega arith) in
+    let c2 = cell 2 (at + 2) (omega arith) (omega arith) in
+    let c3 = cell 3 (at + 3) (omega arith) (omega arith) in
+    let c4 = cell 4 (at + 4) (omega arith) (omega arith) in
+    let c5 = cell 5 (at + 5) (omega arith) (omega arith) in
+    let c6 = cell 6 (at + 6) (omega arith) (omega arith) in
+    let c7 = cell 7 (at + 7) (omega arith) (omega arith) in
+    let c8 = cell 8 (at + 8) (omega arith) (omega arith) in
+    let c9 = cell 9 (at + 9) (omega arith) (omega arith) in
+    let c10 = cell 10 (at + 10) (omega arith) (omega arith) in
+    λ i. record { phase = c0 i; mbal = c1 i; bal = c2 i; inp = c3 i; offer = c4 i; top = c5 i; seenbal = c6 i; seeninp = c7 i; written = c8 i; read = c9 i; agreed = c10 i }
+
+pub block_moved : (r : List ℕ) (at : ℕ) → block_in (take block_length (drop at r)) 0 ≡ block_in r at
+block_moved r at =
+    let cell : (i j : ℕ) → i < block_length → at + i ≡ j → get_or (take block_length (drop at r)) i 0 ≡ get_or r j 0 = part_cell r at block_length in
+    let c0 = cell 0 at (omega arith) (omega arith) in
+    let c1 = cell 1 (at + 1) (omega arith) (omega arith) in
+    let c2 = cell 2 (at + 2) (omega arith) (omega arith) in
+    let c3 = cell 3 (at + 3) (omega arith) (omega arith) in
+    λ i. record { mbal = c0 i; bal = c1 i; inp = c2 i; done = c3 i }
+
+-- the cells that are copied into their part of a row at once are stored one by one
+from_sets : (xs r : List ℕ) (at k : ℕ) → put_from r at k xs ≡ sets r (at + k) xs
+from_sets [] r at k = refl
+from_sets (x ∷ xs) r at k =
+    let next : at + (k + 1) ≡ suc (at + k) = omega arith in
+    from_sets xs (set r (at + k) x) at (k + 1) ∙ ap (λ (j : ℕ). sets (set r (at + k) x) j xs) next
+
+pub put_at_once
+    : (r : List ℕ) (at k : ℕ) (ys xs : List ℕ) → ys ≡ xs → length ys ≡ length (take k (drop at r)) → at + k ≤ length r
+    → put_mid at k r ys ≡ put r at xs
+put_at_once r at k ys xs e n h =
+    let whole : length xs ≡ k =
+    ap length (sym e) ∙ n ∙ length-take-le k (drop at r) (omega (arith, length-drop at r)) in
+    let zero_on : at + 0 ≡ at = omega arith in
+    let after : at + k ≡ at + length xs = omega arith in
+    ap (λ (zs : List ℕ). take at r ++ (zs ++ drop k (drop at r))) e
+    ∙ ap (λ (zs : List ℕ). take at r ++ (xs ++ zs)) (drop-drop k at r ∙ ap (λ (j : ℕ). drop j r) after)
+    ∙ sym (append_assoc (take at r) xs (drop (at + length xs) r))
+    ∙ sym (sets-eq xs r at (omega arith))
+    ∙ sym (put_from_lem r at xs ∙ from_sets xs r at 0 ∙ ap (λ (j : ℕ). sets r j xs) zero_on)

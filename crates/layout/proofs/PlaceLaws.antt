@@ -132,6 +132,10 @@ module _ (z : Sizes) (fit : Fit z) where
   pub nth_of : (d p : ℕ) → d < z.drives → p < z.servers → d * z.servers + p < z.drives * z.servers
   nth_of d p h l = digits_lt h l
 
+  -- a block's number in its slot is small
+  pub nth_small : (d p : ℕ) → d < z.drives → p < z.servers → d * z.servers + p < 28
+  nth_small d p h l = omega (arith, blocks_bound, nth_of d p h l)
+
   pub block_within : (s d p : ℕ) → s < z.slots → d < z.drives → p < z.servers → block_at z s d p + block_length ≤ room_length z
   unfolding block_at
   block_within s d p h l k = nth_within s (d * z.servers + p) h (nth_of d p l k)

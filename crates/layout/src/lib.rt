@@ -6,6 +6,10 @@ ghost use Rattle.layout.specs.Places.{base, server_length, block_length, Fit, Ro
 ghost use Rattle.layout.specs.Cells.{sizes_of, limits_of, server_in, block_in, server_of, block_of, put_server, put_block};
 
 use state::{Block, Server, Sizes};
+use stored::{store_at, stored_at};
+
+// How a record and a block stand in cells.
+pub mod stored;
 
 // The cell of the off marks, and the first cell of slot 0.
 pub const OFF: usize = 3;
@@ -60,6 +64,7 @@ pub fn slot_length(z: Sizes) -> usize
     SERVER_CELLS * (z.servers as usize) + BLOCK_CELLS * ((z.drives as usize) * (z.servers as usize))
 }
 
+#[tactic(auto, using(crate::proofs::PlaceLaws::slots_small), unfolding(crate::specs::Places::room_length))]
 pub fn room_length(z: Sizes) -> usize
     requires { Fit z }
     ensures { result ≡ room_length z }
@@ -79,6 +84,7 @@ pub fn length_of(z: Sizes) -> usize
 }
 
 // Where the record of server p in slot s begins.
+#[tactic(auto, using(crate::proofs::PlaceLaws::slots_small), unfolding(crate::specs::Places::server_at, crate::specs::Places::slot_at))]
 pub fn server_at(z: Sizes, s: u8, p: u8) -> usize
     requires { Fit z × (s < z.slots) × (p < z.servers) }
     ensures { result ≡ server_at z s p }
@@ -87,6 +93,7 @@ pub fn server_at(z: Sizes, s: u8, p: u8) -> usize
 }
 
 // Where server p's block on drive d in slot s begins.
+#[tactic(auto, using(crate::proofs::PlaceLaws::slots_small, crate::proofs::PlaceLaws::nth_small), unfolding(crate::specs::Places::block_at, crate::specs::Places::nth_block_at, crate::specs::Places::slot_at))]
 pub fn block_at(z: Sizes, s: u8, d: u8, p: u8) -> usize
     requires { Fit z × (s < z.slots) × (d < z.drives) × (p < z.servers) }
     ensures { result ≡ block_at z s d p }
@@ -125,36 +132,21 @@ pub fn block_place(z: Sizes, server: u32, slot: u32, drive: u32) -> usize
 }
 
 // The server record that begins at a cell.
+#[tactic(auto, using(crate::proofs::CellLaws::server_moved))]
 pub fn server_in(room: &[u32], at: usize) -> Server
     requires { at + server_length ≤ length room.now }
     ensures { result ≡ server_in room.now at }
 {
-    Server {
-        phase: room[at],
-        mbal: room[at + 1],
-        bal: room[at + 2],
-        inp: room[at + 3],
-        offer: room[at + 4],
-        top: room[at + 5],
-        seenbal: room[at + 6],
-        seeninp: room[at + 7],
-        written: room[at + 8],
-        read: room[at + 9],
-        agreed: room[at + 10],
-    }
+    stored_at(room, at)
 }
 
 // The block that begins at a cell.
+#[tactic(auto, using(crate::proofs::CellLaws::block_moved))]
 pub fn block_in(room: &[u32], at: usize) -> Block
     requires { at + block_length ≤ length room.now }
     ensures { result ≡ block_in room.now at }
 {
-    Block {
-        mbal: room[at],
-        bal: room[at + 1],
-        inp: room[at + 2],
-        done: room[at + 3],
-    }
+    stored_at(room, at)
 }
 
 // The record of server p in slot s.
@@ -176,45 +168,26 @@ pub fn block(room: &[u32], z: Sizes, s: u8, d: u8, p: u8) -> Block
 }
 
 // Stores the record of server p in slot s.
-#[tactic(auto, unfolding(crate::specs::Cells::put_server))]
+#[tactic(auto, using(crate::proofs::PlaceLaws::server_inside), unfolding(crate::specs::Cells::put_server))]
 pub fn store_server(room: &mut [u32], z: Sizes, s: u8, p: u8, v: Server)
     requires { Row z room.old × (s < z.slots) × (p < z.servers) }
     ensures { room.new ≡ put_server z room.old s p v }
 {
-    let at = server_at(z, s, p);
-    room[at] = v.phase;
-    room[at + 1] = v.mbal;
-    room[at + 2] = v.bal;
-    room[at + 3] = v.inp;
-    room[at + 4] = v.offer;
-    room[at + 5] = v.top;
-    room[at + 6] = v.seenbal;
-    room[at + 7] = v.seeninp;
-    room[at + 8] = v.written;
-    room[at + 9] = v.read;
-    room[at + 10] = v.agreed;
+    store_at(room, server_at(z, s, p), v);
 }
 
 // Stores server p's block on drive d in slot s.
-#[tactic(auto, unfolding(crate::specs::Cells::put_block))]
+#[tactic(auto, using(crate::proofs::PlaceLaws::block_inside), unfolding(crate::specs::Cells::put_block))]
 pub fn store_block(room: &mut [u32], z: Sizes, s: u8, d: u8, p: u8, b: Block)
     requires { Row z room.old × (s < z.slots) × (d < z.drives) × (p < z.servers) }
     ensures { room.new ≡ put_block z room.old s d p b }
 {
-    let at = block_at(z, s, d, p);
-    room[at] = b.mbal;
-    room[at + 1] = b.bal;
-    room[at + 2] = b.inp;
-    room[at + 3] = b.done;
+    store_at(room, block_at(z, s, d, p), b);
 }
 
 // Makes every cell 0.
 pub fn clear(row: &mut [u32])
     ensures { row.new ≡ replicate (length row.old) 0 }
 {
-    let mut i = 0;
-    while i < row.len() {
-        row[i] = 0;
-        i += 1;
-    }
+    row.fill(0);
 }
