@@ -73,6 +73,7 @@ pub fn room_length(z: Sizes) -> usize
 }
 
 // The cells of a room of these sizes, and 0 where they do not fit.
+// A number and no Option: C asks for it as a number.
 #[tactic(auto, using(crate::proofs::PlaceLaws::fit_of, crate::proofs::PlaceLaws::room_bound))]
 pub fn length_of(z: Sizes) -> usize
     ensures { (result ≡ length_of z) × (result ≤ longest_room) }
@@ -110,6 +111,7 @@ fn has_server(z: Sizes, server: u32, slot: u32) -> bool
 }
 
 // The first cell of the record of a server in a slot, and 0 where a room of these sizes has no such place.
+// A number and no Option: C asks for it as a number.
 #[tactic(auto, using(crate::proofs::PlaceLaws::has_server_lem, crate::proofs::PlaceLaws::server_within, crate::proofs::PlaceLaws::room_bound))]
 pub fn server_place(z: Sizes, server: u32, slot: u32) -> usize
     ensures { (result ≡ server_place z server slot) × (result ≤ longest_room) }
@@ -150,6 +152,7 @@ pub fn block_in(room: &[u32], at: usize) -> Block
 }
 
 // The record of server p in slot s.
+// Beside `block` and no generic function: a block has one index more, and what the two share is `stored_at`.
 #[tactic(auto, using(crate::proofs::PlaceLaws::server_inside), unfolding(crate::specs::Cells::server_of))]
 pub fn server(room: &[u32], z: Sizes, s: u8, p: u8) -> Server
     requires { Row z room.now × (s < z.slots) × (p < z.servers) }
@@ -168,6 +171,7 @@ pub fn block(room: &[u32], z: Sizes, s: u8, d: u8, p: u8) -> Block
 }
 
 // Stores the record of server p in slot s.
+// Beside `store_block` and no generic function, for the same reason: what the two share is `store_at`.
 #[tactic(auto, using(crate::proofs::PlaceLaws::server_inside), unfolding(crate::specs::Cells::put_server))]
 pub fn store_server(room: &mut [u32], z: Sizes, s: u8, p: u8, v: Server)
     requires { Row z room.old × (s < z.slots) × (p < z.servers) }
