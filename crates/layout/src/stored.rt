@@ -20,6 +20,7 @@ pub trait Stored<const N: usize>: Copy {
     ghost same: { (v : Self) → of_cells (cells_of v) ≡ v };
 }
 
+// The eleven cells of a server record.
 impl Stored<11> for Server {
     ghost of_cells = { λ cells. server_in cells 0 };
 
@@ -77,6 +78,7 @@ impl Stored<11> for Server {
     }
 }
 
+// The four cells of a block.
 impl Stored<4> for Block {
     ghost of_cells = { λ cells. block_in cells 0 };
 
