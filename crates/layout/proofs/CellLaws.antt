@@ -8,64 +8,58 @@ use native.Mathlib.Nat.{add-zero}
 use lib.ListN.{length, get_or, set, take, drop, length-set}
 use Rattle.std.proofs.lemmas.List.{get_or-take, get_or-drop, append_assoc, length-drop}
 use borrow.Rule.Slice.PartMut.{put_mid}
-use lib.Seq.{sets, sets-eq, drop-drop, length-take-le, get_or-set_same, get_or-set_other}
+use lib.Seq.{sets, sets-eq, length-sets, drop-drop, length-take-le, get_or-set_same, get_or-set_other}
 use Rattle.state.specs.declared.Block.{Block}
 use Rattle.state.specs.declared.Server.{Server}
 use Rattle.layout.specs.Places.{server_length, block_length}
 use Rattle.layout.specs.Cells.{put, put_from, server_in, server_cells, block_in, block_cells}
 use Rattle.layout.proofs.PlaceLaws.{Apart}
 
--- a store that begins at a place is a store from its first cell on
-put_from_lem : (r : List ℕ) (at : ℕ) (xs : List ℕ) → put r at xs ≡ put_from r at 0 xs
-put_from_lem r at [] = refl
-put_from_lem r at (x ∷ xs) = ap (λ (j : ℕ). put_from (set r j x) at 1 xs) (sym (add-zero at))
+-- what is stored is the library's run of stores
+from_sets : (xs r : List ℕ) (at k : ℕ) → put_from r at k xs ≡ sets r (at + k) xs
+from_sets [] r at k = refl
+from_sets (x ∷ xs) r at k =
+    let next : at + (k + 1) ≡ suc (at + k) = omega arith in
+    from_sets xs (set r (at + k) x) at (k + 1) ∙ ap (λ (j : ℕ). sets (set r (at + k) x) j xs) next
 
-from_length : (xs r : List ℕ) (at k : ℕ) → length (put_from r at k xs) ≡ length r
-from_length [] r at k = refl
-from_length (x ∷ xs) r at k = from_length xs (set r (at + k) x) at (k + 1) ∙ length-set r (at + k) x
+put_sets : (r : List ℕ) (at : ℕ) (xs : List ℕ) → put r at xs ≡ sets r at xs
+put_sets r at [] = refl
+put_sets r at (x ∷ xs) =
+    let next : at + 1 ≡ suc at = omega arith in
+    from_sets xs (set r at x) at 1 ∙ ap (λ (j : ℕ). sets (set r at x) j xs) next
 
-from_below : (xs r : List ℕ) (at k j : ℕ) → j < at + k → get_or (put_from r at k xs) j 0 ≡ get_or r j 0
-from_below [] r at k j h = refl
-from_below (x ∷ xs) r at k j h =
-    from_below xs (set r (at + k) x) at (k + 1) j (omega arith) ∙ get_or-set_other r (at + k) j x 0 (omega arith)
+sets_below : (xs r : List ℕ) (at j : ℕ) → j < at → get_or (sets r at xs) j 0 ≡ get_or r j 0
+sets_below [] r at j h = refl
+sets_below (x ∷ xs) r at j h = sets_below xs (set r at x) (suc at) j (omega arith) ∙ get_or-set_other r at j x 0 (omega arith)
 
-from_above : (xs r : List ℕ) (at k j : ℕ) → at + k + length xs ≤ j → get_or (put_from r at k xs) j 0 ≡ get_or r j 0
-from_above [] r at k j h = refl
-from_above (x ∷ xs) r at k j h =
-    from_above xs (set r (at + k) x) at (k + 1) j (omega arith) ∙ get_or-set_other r (at + k) j x 0 (omega arith)
+sets_above : (xs r : List ℕ) (at j : ℕ) → at + length xs ≤ j → get_or (sets r at xs) j 0 ≡ get_or r j 0
+sets_above [] r at j h = refl
+sets_above (x ∷ xs) r at j h = sets_above xs (set r at x) (suc at) j (omega arith) ∙ get_or-set_other r at j x 0 (omega arith)
 
-from_at
-    : (xs r : List ℕ) (at k i : ℕ) → i < length xs → at + k + length xs ≤ length r
-    → get_or (put_from r at k xs) (at + k + i) 0 ≡ get_or xs i 0
-from_at [] r at k i h l = absurd (omega arith)
-from_at (x ∷ xs) r at k zero h l =
-    ap (λ (j : ℕ). get_or (put_from (set r (at + k) x) at (k + 1) xs) j 0) (add-zero (at + k))
-    ∙ from_below xs (set r (at + k) x) at (k + 1) (at + k) (omega arith)
-    ∙ get_or-set_same r (at + k) x 0 (omega arith)
-from_at (x ∷ xs) r at k (suc i) h l =
-    let e : at + k + suc i ≡ at + (k + 1) + i = omega arith in
-    let n : length (set r (at + k) x) ≡ length r = length-set r (at + k) x in
-    ap (λ (j : ℕ). get_or (put_from (set r (at + k) x) at (k + 1) xs) j 0) e
-    ∙ from_at xs (set r (at + k) x) at (k + 1) i (omega arith) (omega arith)
+sets_at : (xs r : List ℕ) (at i j : ℕ) → i < length xs → at + length xs ≤ length r → at + i ≡ j → get_or (sets r at xs) j 0 ≡ get_or xs i 0
+sets_at [] r at i j h l e = absurd (omega arith)
+sets_at (x ∷ xs) r at zero j h l e =
+    let same : j ≡ at = omega arith in
+    ap (λ (k : ℕ). get_or (sets (set r at x) (suc at) xs) k 0) same
+    ∙ sets_below xs (set r at x) (suc at) at (omega arith)
+    ∙ get_or-set_same r at x 0 (omega arith)
+sets_at (x ∷ xs) r at (suc i) j h l e =
+    let n : length (set r at x) ≡ length r = length-set r at x in
+    sets_at xs (set r at x) (suc at) i j (omega arith) (omega arith) (omega arith)
 
 pub put-length : (r : List ℕ) (at : ℕ) (xs : List ℕ) → length (put r at xs) ≡ length r
-put-length r at xs = ap length (put_from_lem r at xs) ∙ from_length xs r at 0
+put-length r at xs = ap length (put_sets r at xs) ∙ length-sets r at xs
 
 -- a cell that is not stored is as it was
 pub put_outside : (r : List ℕ) (at : ℕ) (xs : List ℕ) (j : ℕ) → (j < at) ⊎ (at + length xs ≤ j) → get_or (put r at xs) j 0 ≡ get_or r j 0
 put_outside r at xs j h =
-    ap (λ (l : List ℕ). get_or l j 0) (put_from_lem r at xs)
-    ∙ ⊎_elim (λ b. from_below xs r at 0 j (omega arith)) (λ b. from_above xs r at 0 j (omega arith)) h
+    ap (λ (l : List ℕ). get_or l j 0) (put_sets r at xs) ∙ ⊎_elim (sets_below xs r at j) (sets_above xs r at j) h
 
 -- a cell that is stored is what was stored
 pub put_at
     : (r : List ℕ) (at : ℕ) (xs : List ℕ) (i : ℕ) → i < length xs → at + length xs ≤ length r
     → get_or (put r at xs) (at + i) 0 ≡ get_or xs i 0
-put_at r at xs i h l =
-    let e : at + i ≡ at + 0 + i = omega arith in
-    ap (λ (k : List ℕ). get_or k (at + i) 0) (put_from_lem r at xs)
-    ∙ ap (λ (j : ℕ). get_or (put_from r at 0 xs) j 0) e
-    ∙ from_at xs r at 0 i h (omega arith)
+put_at r at xs i h l = ap (λ (k : List ℕ). get_or k (at + i) 0) (put_sets r at xs) ∙ sets_at xs r at i (at + i) h l refl
 
 -- the cells from a place on, each of which is that of a record or a block
 pub server_read
@@ -199,22 +193,15 @@ block_moved r at =
     λ i. record { mbal = c0 i; bal = c1 i; inp = c2 i; done = c3 i }
 
 -- the cells that are copied into their part of a row at once are stored one by one
-from_sets : (xs r : List ℕ) (at k : ℕ) → put_from r at k xs ≡ sets r (at + k) xs
-from_sets [] r at k = refl
-from_sets (x ∷ xs) r at k =
-    let next : at + (k + 1) ≡ suc (at + k) = omega arith in
-    from_sets xs (set r (at + k) x) at (k + 1) ∙ ap (λ (j : ℕ). sets (set r (at + k) x) j xs) next
-
 pub put_at_once
     : (r : List ℕ) (at k : ℕ) (ys xs : List ℕ) → ys ≡ xs → length ys ≡ length (take k (drop at r)) → at + k ≤ length r
     → put_mid at k r ys ≡ put r at xs
 put_at_once r at k ys xs e n h =
     let whole : length xs ≡ k =
     ap length (sym e) ∙ n ∙ length-take-le k (drop at r) (omega (arith, length-drop at r)) in
-    let zero_on : at + 0 ≡ at = omega arith in
     let after : at + k ≡ at + length xs = omega arith in
     ap (λ (zs : List ℕ). take at r ++ (zs ++ drop k (drop at r))) e
     ∙ ap (λ (zs : List ℕ). take at r ++ (xs ++ zs)) (drop-drop k at r ∙ ap (λ (j : ℕ). drop j r) after)
     ∙ sym (append_assoc (take at r) xs (drop (at + length xs) r))
     ∙ sym (sets-eq xs r at (omega arith))
-    ∙ sym (put_from_lem r at xs ∙ from_sets xs r at 0 ∙ ap (λ (j : ℕ). sets r j xs) zero_on)
+    ∙ sym (put_sets r at xs)
