@@ -42,7 +42,7 @@ pub fn complete(servers: u32, v: Server, p: u8, drives: u32) -> u32
     })
 }
 
-#[tactic(auto, using(quorum::proofs::AllBelow::all_listed))]
+// Whether every other server's block on drive d is marked as read.
 fn others_read(servers: u32, v: Server, p: u8, d: u32) -> bool
     ensures { result ≡ others_read servers v p d }
 {
