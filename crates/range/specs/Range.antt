@@ -1,13 +1,15 @@
 -- Cells in range (SPEC, "The room in memory"): refusal 3 says that they are not.
-use Rattle.std.specs.Prelude.{ℕ, ◌+◌, ◌*◌, ◌/◌, ◌%◌, Bool, ◌&&◌, ◌||◌, List, length, eqb, leb, ltb}
+use Rattle.std.specs.Prelude.{ℕ, ◌*◌, ◌/◌, ◌%◌, Bool, ◌&&◌, ◌||◌, List, length, take, drop, map, eqb, leb, ltb}
+use Rattle.std.specs.List.{list_all}
+use Rattle.std.specs.Simd.{first_chunks}
 use Rattle.command.specs.Command.{is_command}
 use Rattle.quorum.specs.Sets.{all_below, gathered, within}
 use Rattle.state.specs.Block.{ballot_fits}
 use Rattle.state.specs.declared.Block.{Block}
 use Rattle.state.specs.declared.Server.{Server}
 use Rattle.state.specs.declared.Sizes.{Sizes}
-use Rattle.layout.specs.Places.{base, block_length, sizes_fit, room_length, nth_block_at}
-use Rattle.layout.specs.Cells.{sizes_of, off_of, limits_of, server_of, block_in}
+use Rattle.layout.specs.Places.{base, server_length, block_length, sizes_fit, room_length, nth_block_at}
+use Rattle.layout.specs.Cells.{sizes_of, off_of, limits_of, server_in, server_of, block_in}
 use Rattle.range.specs.declared.Masks.{Masks}
 
 -- the marks that may stand: of drives, and of blocks read (bit 4d + q)
@@ -51,17 +53,22 @@ values_fit value b = value b.inp && value b.done
 unfoldable pub block_fits : (ℕ → Bool) → Block → Bool
 block_fits value b = ballots_fit b && values_fit value b
 
--- n blocks that stand one after the other from a cell on
-unfoldable pub blocks_from : (ℕ → Bool) → List ℕ → ℕ → ℕ → Bool
-blocks_from value cells first n = all_below n (λ j. block_fits value (block_in cells (first + block_length * j)))
+-- a row of cells as pieces of n cells each
+abbrev pub pieces : ℕ → List ℕ → List (List ℕ)
+pieces n cells = first_chunks n (length cells / n) cells
 
--- a test of each of the four blocks from a cell on, and of each of them beside one of four others
-abbrev pub of_four : (Block → Bool) → List ℕ → ℕ → Bool
-of_four test cells at = all_below 4 (λ j. test (block_in cells (at + block_length * j)))
+-- some blocks by their cells, and a test of each of them
+abbrev pub blocks_of : List (List ℕ) → List Block
+blocks_of blocks = map (λ cells. block_in cells 0) blocks
 
-abbrev pub of_four_beside : (Block → Block → Bool) → List ℕ → ℕ → ℕ → Bool
-of_four_beside test cells at others =
-    all_below 4 (λ j. test (block_in cells (at + block_length * j)) (block_in cells (others + block_length * j)))
+abbrev pub every_block : (Block → Bool) → List (List ℕ) → Bool
+every_block test blocks = list_all (λ cells. test (block_in cells 0)) blocks
+
+-- a slot as a row of its own, which begins with n cells of server records
+abbrev pub slot_in : (ℕ → Bool) → Masks → ℕ → List ℕ → Bool
+slot_in value k n slot =
+    list_all (λ cells. server_fits value k (server_in cells 0)) (pieces server_length (take n slot))
+    && every_block (block_fits value) (pieces block_length (drop n slot))
 
 -- a block with no value but v
 unfoldable pub holds_only : ℕ → Block → Bool

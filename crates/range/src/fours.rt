@@ -1,201 +1,134 @@
 // Blocks four at a time: the back end compares four blocks as vectors. In most rooms most blocks of a slot are blank, or hold
 // one value and no other, so that few are looked up in the table.
-ghost use Rattle.std.specs.Prelude.{◌≡◌, true, ◌&&◌, ◌+◌, ◌*◌, ◌≤◌, length};
+ghost use Rattle.std.specs.Prelude.{◌≡◌, true, Bool};
+ghost use Rattle.std.specs.List.{list_all};
 ghost use Rattle.command.specs.Tops.{value_by};
-ghost use Rattle.quorum.specs.Sets.{all_below};
+ghost use Rattle.state.specs.declared.Block.{Block};
 ghost use Rattle.state.specs.Block.{blank, same_block};
-ghost use Rattle.layout.specs.Places.{block_length};
 ghost use Rattle.layout.specs.Cells.{block_in};
-ghost use Rattle.range.specs.Range.{ballots_fit, values_fit, blocks_from, of_four, of_four_beside, holds_only};
+ghost use Rattle.range.specs.Range.{ballots_fit, values_fit, block_fits, blocks_of, every_block, holds_only};
 
 use crate::values::{ballots_fit, block_fits, values_fit};
 use command::is_value;
 use layout::{BLOCK_CELLS, block_in};
 use state::Block;
 
-// Every four blocks that stand one after the other from a cell on.
-pub(crate) fn fours_fit(room: &[u32], tops: &[u8; 96], first: usize, count: usize) -> bool
-    requires { first + block_length * (4 * count) ≤ length room.now }
-    ensures { result ≡ all_below count (λ q. blocks_from (value_by tops.now) room.now (first + block_length * (4 * q)) 4) }
+// The cells of four blocks that stand one after the other.
+type Four = [[u32; BLOCK_CELLS]; 4];
+
+// Every four of a slot.
+pub(crate) fn fours_fit(tops: &[u8; 96], fours: &[Four]) -> bool
+    ensures { result ≡ list_all (every_block (block_fits (value_by tops.now))) fours.now }
 {
-    if all_blank(room, first, count) {
+    if all_blank(fours) {
         return true;
     }
-    let v = common_value(room, tops, first);
-    if four_hold(room, first, v) {
-        return fours_with(room, tops, first, count, v);
+    let Some((first, others)) = fours.split_first() else {
+        return true;
+    };
+    let v = common_value(tops, first);
+    if four_hold(first, v) {
+        return fours.iter().all(|four| four_with(tops, four, v));
     }
-    fours_in_turn(room, tops, first, count)
+    four_fits(tops, first) && others.iter().all(|four| four_like(tops, first, four))
 }
 
 // Whether no block of these fours was written.
-fn all_blank(room: &[u32], first: usize, count: usize) -> bool
-    requires { first + block_length * (4 * count) ≤ length room.now }
-    ensures { result ≡ all_below count (λ q. of_four (same_block blank) room.now (first + block_length * (4 * q))) }
+fn all_blank(fours: &[Four]) -> bool
+    ensures { result ≡ list_all (every_block (same_block blank)) fours.now }
 {
-    let mut q = 0;
-    while q < count {
-        if !four_blank(room, first + BLOCK_CELLS * (4 * q)) {
-            return false;
-        }
-        q += 1;
-    }
-    true
+    fours.iter().all(|four| four_blank(four))
 }
 
-fn four_blank(room: &[u32], at: usize) -> bool
-    requires { at + block_length * 4 ≤ length room.now }
-    ensures { result ≡ of_four (same_block blank) room.now at }
+// A block by its cells.
+pub(crate) fn block(cells: &[u32; BLOCK_CELLS]) -> Block
+    ensures { result ≡ block_in cells.now 0 }
 {
-    Block::BLANK.same(block_in(room, at))
-        & Block::BLANK.same(block_in(room, at + BLOCK_CELLS))
-        & Block::BLANK.same(block_in(room, at + BLOCK_CELLS * 2))
-        & Block::BLANK.same(block_in(room, at + BLOCK_CELLS * 3))
+    block_in(cells, 0)
+}
+
+// Whether each of the four passes a test, all judged with no branch between them.
+fn all_at_once<F: Fn(Block) -> bool>(four: &Four, test: F) -> bool
+    requires { F.IsAlwaysCallable test }
+    ensures { (p : Block → Bool) → ((b : Block) (r : Bool) → F.post test b r → r ≡ p b) → result ≡ every_block p four.now }
+{
+    test(block(&four[0])) & test(block(&four[1])) & test(block(&four[2])) & test(block(&four[3]))
 }
 
 // The value of four blocks that hold one and no other; of others any value.
-fn common_value(room: &[u32], tops: &[u8; 96], at: usize) -> u32
-    requires { at + block_length * 4 ≤ length room.now }
+#[tactic(auto, using(crate::proofs::Together::zero_by))]
+fn common_value(tops: &[u8; 96], four: &Four) -> u32
     ensures { value_by tops.now result ≡ true }
 {
-    let a = block_in(room, at);
-    let b = block_in(room, at + BLOCK_CELLS);
-    let c = block_in(room, at + BLOCK_CELLS * 2);
-    let d = block_in(room, at + BLOCK_CELLS * 3);
+    let a = block(&four[0]);
+    let b = block(&four[1]);
+    let c = block(&four[2]);
+    let d = block(&four[3]);
     let v = a.inp | a.done | b.inp | b.done | c.inp | c.done | d.inp | d.done;
     if is_value(tops, v) { v } else { 0 }
 }
 
-// Whether four blocks hold no value but v.
-fn four_hold(room: &[u32], at: usize, v: u32) -> bool
-    requires { at + block_length * 4 ≤ length room.now }
-    ensures { result ≡ of_four (holds_only v) room.now at }
-{
-    holds_only(v, block_in(room, at))
-        & holds_only(v, block_in(room, at + BLOCK_CELLS))
-        & holds_only(v, block_in(room, at + BLOCK_CELLS * 2))
-        & holds_only(v, block_in(room, at + BLOCK_CELLS * 3))
-}
-
+#[tactic(auto, unfolding(crate::specs::Range::holds_only))]
 fn holds_only(v: u32, b: Block) -> bool
     ensures { result ≡ holds_only v b }
 {
     ((b.inp == 0) | (b.inp == v)) & ((b.done == 0) | (b.done == v))
 }
 
-// The fours of a slot whose first four hold the value v and no other.
-fn fours_with(room: &[u32], tops: &[u8; 96], first: usize, count: usize, v: u32) -> bool
-    requires { (first + block_length * (4 * count) ≤ length room.now) × (value_by tops.now v ≡ true) }
-    ensures { result ≡ all_below count (λ q. blocks_from (value_by tops.now) room.now (first + block_length * (4 * q)) 4) }
+fn four_blank(four: &Four) -> bool
+    ensures { result ≡ every_block (same_block blank) four.now }
 {
-    let mut q = 0;
-    while q < count {
-        if !four_with(room, tops, first + BLOCK_CELLS * (4 * q), v) {
-            return false;
-        }
-        q += 1;
-    }
-    true
+    all_at_once(four, |b| Block::BLANK.same(b))
+}
+
+// Whether four blocks hold no value but v.
+fn four_hold(four: &Four, v: u32) -> bool
+    ensures { result ≡ every_block (holds_only v) four.now }
+{
+    all_at_once(four, |b| holds_only(v, b))
 }
 
 // Four blocks. Where they hold v and no other value, which is judged already, the table is not looked at.
-fn four_with(room: &[u32], tops: &[u8; 96], at: usize, v: u32) -> bool
-    requires { (at + block_length * 4 ≤ length room.now) × (value_by tops.now v ≡ true) }
-    ensures { result ≡ blocks_from (value_by tops.now) room.now at 4 }
+fn four_with(tops: &[u8; 96], four: &Four, v: u32) -> bool
+    requires { value_by tops.now v ≡ true }
+    ensures { result ≡ every_block (block_fits (value_by tops.now)) four.now }
 {
-    if !four_ballots_fit(room, at) {
+    if !all_at_once(four, ballots_fit) {
         return false;
     }
-    if four_hold(room, at, v) {
+    if four_hold(four, v) {
         return true;
     }
-    four_values_fit(room, tops, at)
+    four_values_fit(tops, four)
 }
 
-fn four_ballots_fit(room: &[u32], at: usize) -> bool
-    requires { at + block_length * 4 ≤ length room.now }
-    ensures { result ≡ of_four ballots_fit room.now at }
+fn four_values_fit(tops: &[u8; 96], four: &Four) -> bool
+    ensures { result ≡ every_block (values_fit (value_by tops.now)) four.now }
 {
-    ballots_fit(block_in(room, at))
-        & ballots_fit(block_in(room, at + BLOCK_CELLS))
-        & ballots_fit(block_in(room, at + BLOCK_CELLS * 2))
-        & ballots_fit(block_in(room, at + BLOCK_CELLS * 3))
+    four.iter().all(|cells| values_fit(tops, block(cells)))
 }
 
-fn four_values_fit(room: &[u32], tops: &[u8; 96], at: usize) -> bool
-    requires { at + block_length * 4 ≤ length room.now }
-    ensures { result ≡ of_four (values_fit (value_by tops.now)) room.now at }
+// Four blocks, beside four that are in range. A server writes the same block to every drive, so they are often the same.
+fn four_like(tops: &[u8; 96], judged: &Four, four: &Four) -> bool
+    requires { every_block (block_fits (value_by tops.now)) judged.now ≡ true }
+    ensures { result ≡ every_block (block_fits (value_by tops.now)) four.now }
 {
-    if !values_fit(tops, block_in(room, at)) {
-        return false;
-    }
-    if !values_fit(tops, block_in(room, at + BLOCK_CELLS)) {
-        return false;
-    }
-    if !values_fit(tops, block_in(room, at + BLOCK_CELLS * 2)) {
-        return false;
-    }
-    values_fit(tops, block_in(room, at + BLOCK_CELLS * 3))
+    four_same(judged, four) || four_fits(tops, four)
 }
 
-// The fours of a slot whose first four hold several values. A server writes the same block to every drive, so the others
-// are often the first four again.
-fn fours_in_turn(room: &[u32], tops: &[u8; 96], first: usize, count: usize) -> bool
-    requires { (1 ≤ count) × (first + block_length * (4 * count) ≤ length room.now) }
-    ensures { result ≡ all_below count (λ q. blocks_from (value_by tops.now) room.now (first + block_length * (4 * q)) 4) }
+// Whether two fours are alike, block by block.
+fn four_same(a: &Four, b: &Four) -> bool
+    ensures { result ≡ true → blocks_of b.now ≡ blocks_of a.now }
 {
-    if !four_fit(room, tops, first) {
-        return false;
-    }
-    let mut q = 1;
-    while q < count {
-        if !four_like(room, tops, first, first + BLOCK_CELLS * (4 * q)) {
-            return false;
-        }
-        q += 1;
-    }
-    true
-}
-
-// Four blocks, beside four that are in range.
-fn four_like(room: &[u32], tops: &[u8; 96], judged: usize, at: usize) -> bool
-    requires { (judged + block_length * 4 ≤ length room.now) × (at + block_length * 4 ≤ length room.now) × (blocks_from (value_by tops.now) room.now judged 4 ≡ true) }
-    ensures { result ≡ blocks_from (value_by tops.now) room.now at 4 }
-{
-    if four_same(room, judged, at) {
-        return true;
-    }
-    four_fit(room, tops, at)
-}
-
-fn four_same(room: &[u32], at: usize, others: usize) -> bool
-    requires { (at + block_length * 4 ≤ length room.now) × (others + block_length * 4 ≤ length room.now) }
-    ensures { result ≡ of_four_beside same_block room.now at others }
-{
-    two_same(room, at, others) & two_same(room, at + BLOCK_CELLS * 2, others + BLOCK_CELLS * 2)
-}
-
-fn two_same(room: &[u32], at: usize, others: usize) -> bool
-    requires { (at + block_length * 2 ≤ length room.now) × (others + block_length * 2 ≤ length room.now) }
-    ensures { result ≡ (same_block (block_in room.now at) (block_in room.now others) && same_block (block_in room.now (at + block_length)) (block_in room.now (others + block_length))) }
-{
-    block_in(room, at).same(block_in(room, others))
-        & block_in(room, at + BLOCK_CELLS).same(block_in(room, others + BLOCK_CELLS))
+    block(&a[0]).same(block(&b[0]))
+        & block(&a[1]).same(block(&b[1]))
+        & block(&a[2]).same(block(&b[2]))
+        & block(&a[3]).same(block(&b[3]))
 }
 
 // Four blocks, one after the other.
-fn four_fit(room: &[u32], tops: &[u8; 96], at: usize) -> bool
-    requires { at + block_length * 4 ≤ length room.now }
-    ensures { result ≡ blocks_from (value_by tops.now) room.now at 4 }
+fn four_fits(tops: &[u8; 96], four: &Four) -> bool
+    ensures { result ≡ every_block (block_fits (value_by tops.now)) four.now }
 {
-    if !block_fits(tops, block_in(room, at)) {
-        return false;
-    }
-    if !block_fits(tops, block_in(room, at + BLOCK_CELLS)) {
-        return false;
-    }
-    if !block_fits(tops, block_in(room, at + BLOCK_CELLS * 2)) {
-        return false;
-    }
-    block_fits(tops, block_in(room, at + BLOCK_CELLS * 3))
+    four.iter().all(|cells| block_fits(tops, block(cells)))
 }

@@ -4,16 +4,16 @@
 mod fours;
 mod values;
 
-ghost use Rattle.std.specs.Prelude.{◌≡◌, ◌+◌, ◌*◌, ◌≤◌, length};
+ghost use Rattle.std.specs.Prelude.{◌≡◌, ◌<◌, ◌≤◌, length};
+ghost use Rattle.std.specs.List.{list_all};
 ghost use Rattle.command.specs.Tops.{value_by};
-ghost use Rattle.quorum.specs.Sets.{all_below};
-ghost use Rattle.layout.specs.Places.{server_length, block_length, Fit, Row};
+ghost use Rattle.layout.specs.Places.{server_length, block_length, Fit};
 ghost use Rattle.layout.specs.Cells.{server_in};
-ghost use Rattle.range.specs.Range.{masks_of, numbers_fit, server_fits, blocks_from, slot_fits, in_range};
+ghost use Rattle.range.specs.Range.{masks_of, numbers_fit, server_fits, block_fits, pieces, every_block, slot_in, in_range};
 
 use command::tops_of;
-use fours::fours_fit;
-use layout::{block_in, room_length, server_in, sizes, sizes_fit, slot_length};
+use fours::{block, fours_fit};
+use layout::{BLOCK_CELLS, SERVER_CELLS, room_length, server_in, sizes, sizes_fit, slot_length};
 use quorum::only_legal;
 use state::{Block, Server, Sizes};
 use values::{block_fits, own_values_fit};
@@ -56,81 +56,58 @@ pub fn in_range(room: &[u32]) -> bool
         return false;
     }
     let tops = tops_of(&limits);
-    slots_fit(room, &tops, z, k)
+    let records = SERVER_CELLS * (z.servers as usize);
+    slots_fit(&tops, k, &room[layout::BASE..], slot_length(z), records)
 }
 
-// Every slot. The table judges the values, by the room's limits.
-fn slots_fit(room: &[u32], tops: &[u8; 96], z: Sizes, k: Masks) -> bool
-    requires { Row z room.now × (k ≡ masks_of z) }
-    ensures { result ≡ all_below z.slots (slot_fits (value_by tops.now) z room.now) }
+// Every slot of a row of them, each of `length` cells that begin with those of its server records. The table judges the
+// values, by the room's limits. Compiled by itself: where the back end knows that a slot has few blocks, it unrolls the
+// search for blank ones, and judging an empty room takes a tenth longer.
+#[inline(never)]
+fn slots_fit(tops: &[u8; 96], k: Masks, cells: &[u32], length: usize, records: usize) -> bool
+    requires { (0 < length) × (records ≤ length) }
+    ensures { result ≡ list_all (slot_in (value_by tops.now) k records) (pieces length cells.now) }
 {
-    let servers = z.servers as usize;
-    let blocks = (z.drives as usize) * servers;
-    let length = slot_length(z);
-    let mut s = 0;
-    while s < (z.slots as usize) {
-        let at = layout::BASE + s * length;
-        if !servers_fit(room, tops, k, at, servers) {
-            return false;
-        }
-        if !blocks_fit(room, tops, at + layout::SERVER_CELLS * servers, blocks) {
-            return false;
-        }
-        s += 1;
-    }
-    true
+    cells.chunks_exact(length).all(|slot| slot_fits(tops, k, slot, records))
 }
 
-// The server records that stand one after the other from a cell on.
-fn servers_fit(room: &[u32], tops: &[u8; 96], k: Masks, first: usize, count: usize) -> bool
-    requires { first + server_length * count ≤ length room.now }
-    ensures { result ≡ all_below count (λ p. server_fits (value_by tops.now) k (server_in room.now (first + server_length * p))) }
+fn slot_fits(tops: &[u8; 96], k: Masks, slot: &[u32], records: usize) -> bool
+    requires { records ≤ length slot.now }
+    ensures { result ≡ slot_in (value_by tops.now) k records slot.now }
 {
-    let mut p = 0;
-    while p < count {
-        if !server_fits(tops, k, server_in(room, first + layout::SERVER_CELLS * p)) {
-            return false;
-        }
-        p += 1;
-    }
-    true
+    let (servers, blocks) = slot.split_at(records);
+    servers_fit(tops, k, servers) && blocks_fit(tops, blocks)
 }
 
-// The blocks that stand one after the other from a cell on: four at a time, then the rest one by one.
-fn blocks_fit(room: &[u32], tops: &[u8; 96], first: usize, count: usize) -> bool
-    requires { first + block_length * count ≤ length room.now }
-    ensures { result ≡ blocks_from (value_by tops.now) room.now first count }
+// The server records that stand one after the other.
+fn servers_fit(tops: &[u8; 96], k: Masks, cells: &[u32]) -> bool
+    ensures { result ≡ list_all (λ r. server_fits (value_by tops.now) k (server_in r 0)) (pieces server_length cells.now) }
 {
-    let fours = count / 4;
-    if !fours_fit(room, tops, first, fours) {
-        return false;
-    }
-    let rest = first + layout::BLOCK_CELLS * (4 * fours);
-    rest_fit(room, tops, rest, count % 4)
+    let (records, _) = cells.as_chunks::<SERVER_CELLS>();
+    records.iter().all(|r| server_fits(tops, k, server_in(r, 0)))
 }
 
-fn rest_fit(room: &[u32], tops: &[u8; 96], first: usize, count: usize) -> bool
-    requires { first + block_length * count ≤ length room.now }
-    ensures { result ≡ blocks_from (value_by tops.now) room.now first count }
+// The blocks that stand one after the other: four at a time, then the rest one by one.
+fn blocks_fit(tops: &[u8; 96], cells: &[u32]) -> bool
+    ensures { result ≡ every_block (block_fits (value_by tops.now)) (pieces block_length cells.now) }
 {
-    let mut j = 0;
-    while j < count {
-        if !block_fits(tops, block_in(room, first + layout::BLOCK_CELLS * j)) {
-            return false;
-        }
-        j += 1;
-    }
-    true
+    let (blocks, _) = cells.as_chunks::<BLOCK_CELLS>();
+    let (fours, rest) = blocks.as_chunks::<4>();
+    fours_fit(tops, fours) && rest_fit(tops, rest)
+}
+
+fn rest_fit(tops: &[u8; 96], blocks: &[[u32; BLOCK_CELLS]]) -> bool
+    ensures { result ≡ every_block (block_fits (value_by tops.now)) blocks.now }
+{
+    blocks.iter().all(|cells| block_fits(tops, block(cells)))
 }
 
 // One server record. Its numbers are judged together, then its values.
+#[tactic(auto, unfolding(crate::specs::Range::server_fits))]
 fn server_fits(tops: &[u8; 96], k: Masks, v: Server) -> bool
     ensures { result ≡ server_fits (value_by tops.now) k v }
 {
-    if !numbers_fit(k, v) {
-        return false;
-    }
-    own_values_fit(tops, v.inp, v.offer, v.seeninp, v.agreed)
+    numbers_fit(k, v) && own_values_fit(tops, v.inp, v.offer, v.seeninp, v.agreed)
 }
 
 fn numbers_fit(k: Masks, v: Server) -> bool

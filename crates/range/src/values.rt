@@ -20,16 +20,10 @@ pub(crate) fn own_values_fit(
     if (inp | offer | seeninp | agreed) == 0 {
         return true;
     }
-    if !is_value(tops, inp) {
-        return false;
-    }
-    if !is_value(tops, offer) {
-        return false;
-    }
-    if !value_beside(tops, inp, seeninp) {
-        return false;
-    }
-    value_beside(tops, inp, agreed)
+    is_value(tops, inp)
+        && is_value(tops, offer)
+        && value_beside(tops, inp, seeninp)
+        && value_beside(tops, inp, agreed)
 }
 
 // A value beside one that was judged: often it is the same, which needs no look at the table.
@@ -37,20 +31,15 @@ pub(crate) fn value_beside(tops: &[u8; 96], judged: u32, v: u32) -> bool
     requires { value_by tops.now judged ≡ true }
     ensures { result ≡ value_by tops.now v }
 {
-    if v == judged {
-        return true;
-    }
-    is_value(tops, v)
+    v == judged || is_value(tops, v)
 }
 
 // One block.
+#[tactic(auto, unfolding(crate::specs::Range::block_fits))]
 pub(crate) fn block_fits(tops: &[u8; 96], b: Block) -> bool
     ensures { result ≡ block_fits (value_by tops.now) b }
 {
-    if !ballots_fit(b) {
-        return false;
-    }
-    values_fit(tops, b)
+    ballots_fit(b) && values_fit(tops, b)
 }
 
 pub(crate) fn ballots_fit(b: Block) -> bool
@@ -63,8 +52,5 @@ pub(crate) fn ballots_fit(b: Block) -> bool
 pub(crate) fn values_fit(tops: &[u8; 96], b: Block) -> bool
     ensures { result ≡ values_fit (value_by tops.now) b }
 {
-    if !is_value(tops, b.inp) {
-        return false;
-    }
-    value_beside(tops, b.inp, b.done)
+    is_value(tops, b.inp) && value_beside(tops, b.inp, b.done)
 }

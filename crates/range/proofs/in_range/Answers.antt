@@ -1,33 +1,43 @@
 -- `range::in_range` meets its contract: the tests are the rule's, in its order.
-use Prim.Native.Nat.{ℕ}
+use Prim.Native.Nat.{ℕ, ◌*◌, ◌-◌}
 use mathlib.Core.Path.{◌≡◌, ◌∙◌, sym, ap}
 use mathlib.Core.Bool.{Bool}
 use mathlib.Core.List.{List}
 use native.Mathlib.Omega.{arith}
 use borrow.Author.Tests.{eq-eqb, ne_eqb}
-use lib.ListN.{length}
+use lib.ListN.{length, take, drop}
+use Rattle.std.specs.List.{list_all}
+use Rattle.std.proofs.lemmas.List.{take_all, length-drop}
 use Rattle.command.specs.Tops.{tops_of, value_by}
 use Rattle.quorum.specs.Sets.{all_below, within}
 use Rattle.state.specs.declared.Sizes.{Sizes}
-use Rattle.layout.specs.Places.{room_length}
+use Rattle.layout.specs.Places.{base, server_length, slot_length, room_length, Row}
 use Rattle.layout.specs.Cells.{off_of}
 use Rattle.layout.proofs.PlaceLaws.{fit_of}
 use Rattle.range.specs.declared.Masks.{Masks}
-use Rattle.range.specs.Range.{legal_drives, masks_of, slot_fits}
+use Rattle.range.specs.Range.{legal_drives, masks_of, value_fits, slot_fits, pieces, slot_in}
 use Rattle.range.proofs.Laws.{short_row, row_of, no_sizes, no_length, no_off, then_slots}
 use Rattle.range.proofs.Together.{by_table}
+use Rattle.range.proofs.Slots.{slots_as_rule}
 use Rattle.range.proofs.in_range.Goals as goal
 
 -- what the test of the off marks has judged: by the masks that the code has
 off : (z : Sizes) (k : Masks) (marks : ℕ) (x : Bool) → k ≡ masks_of z → x ≡ within marks k.drives → x ≡ within marks (legal_drives z)
 off z k marks x e judged = judged ∙ ap (λ (m : Masks). within marks m.drives) e
 
--- the slots of the row, judged by the table of the limits
+-- the slots of the row, judged each as a row of its own and by the table of the limits
 slots
-    : (limits : List ℕ) (z : Sizes) (row tops : List ℕ) (x : Bool) → tops ≡ tops_of limits
-    → x ≡ all_below z.slots (slot_fits (value_by tops) z row)
-    → x ≡ all_below z.slots (slot_fits (value_by (tops_of limits)) z row)
-slots limits z row tops x e judged = judged ∙ ap (λ (t : List ℕ). all_below z.slots (slot_fits (value_by t) z row)) e
+    : (limits : List ℕ) (z : Sizes) (row tops : List ℕ) (k : Masks) (l : ℕ) (x : Bool) → Row z row → tops ≡ tops_of limits
+    → k ≡ masks_of z → l ≡ slot_length z
+    → x ≡ list_all (slot_in (value_by tops) k (server_length * z.servers)) (pieces l (take (length row - base) (drop base row)))
+    → x ≡ all_below z.slots (slot_fits (value_fits limits) z row)
+slots limits z row tops k l x r e f h judged =
+    let whole : take (length row - base) (drop base row) ≡ drop base row
+        = take_all (length row - base) (drop base row) (omega (arith, length-drop base row)) in
+    judged
+    ∙ (λ i. list_all (slot_in (value_by (e i)) (f i) (server_length * z.servers)) (pieces (h i) (whole i)))
+    ∙ slots_as_rule (value_by (tops_of limits)) z row r
+    ∙ ap (λ (value : ℕ → Bool). all_below z.slots (slot_fits value z row)) (by_table limits)
 
 pub returns-then-room-lt-BASE : goal.returns-then-room-lt-BASE
 returns-then-room-lt-BASE c = sym (short_row c.args.room.now c.if-room-lt-BASE.true)
@@ -67,10 +77,14 @@ returns-then-not-only_legal c =
     (row_of limits z row c.limits-limits.ensures c.sizes-z.ensures c.if-room-lt-BASE.false
     ∙ no_off limits z row (sym judged ∙ c.if-not-only_legal.true))
 
+pub slot_length-requires : goal.slot_length-requires
+slot_length-requires c = fit_of c.sizes-z.result (sym c.sizes_fit.ensures ∙ c.if-not-sizes_fit.false)
+
 pub slots_fit-requires : goal.slots_fit-requires
+unfolding slot_length
 slots_fit-requires c =
     let fit = fit_of c.sizes-z.result (sym c.sizes_fit.ensures ∙ c.if-not-sizes_fit.false) in
-    (record { fit = fit; exact = omega (arith, c.if-room-room_length.false, c.room_length.ensures) }, c.masks_of-k.ensures)
+    (omega (arith, fit, c.slot_length.ensures), omega (arith, c.slot_length.ensures))
 
 pub returns : goal.returns
 returns c =
@@ -78,10 +92,11 @@ returns c =
     let limits = c.limits-limits.result in
     let z = c.sizes-z.result in
     let judged = off z c.masks_of-k.result (off_of row) _ c.masks_of-k.ensures c.only_legal.ensures in
+    let fit = fit_of z (sym c.sizes_fit.ensures ∙ c.if-not-sizes_fit.false) in
+    let r : Row z row = record { fit = fit; exact = omega (arith, c.if-room-room_length.false, c.room_length.ensures) } in
     then_slots limits z row c.slots_fit.result
     (sym c.sizes_fit.ensures ∙ c.if-not-sizes_fit.false)
     (eq-eqb _ _ (omega (arith, c.if-room-room_length.false, c.room_length.ensures)))
     (sym judged ∙ c.if-not-only_legal.false)
-    (slots limits z row _ _ c.tops_of-tops.ensures c.slots_fit.ensures
-    ∙ ap (λ (value : ℕ → Bool). all_below z.slots (slot_fits value z row)) (by_table limits))
+    (slots limits z row _ _ _ _ r c.tops_of-tops.ensures c.masks_of-k.ensures c.slot_length.ensures c.slots_fit.ensures)
     ∙ sym (row_of limits z row c.limits-limits.ensures c.sizes-z.ensures c.if-room-lt-BASE.false)

@@ -1,26 +1,14 @@
--- `range::fours::four_same` meets its contract: two blocks, and then two more, are compared with their own.
-use Prim.Native.Nat.{ℕ, ◌+◌, ◌*◌}
-use mathlib.Core.Path.{◌≡◌, ◌∙◌, sym, ap₂}
-use mathlib.Core.Bool.{Bool, ◌&&◌, and_assoc}
-use native.Mathlib.Omega.{arith}
+-- `range::fours::four_same` meets its contract: each of the four is compared with its own.
+use mathlib.Core.Path.{◌∙◌, sym, ap₂}
+use mathlib.Core.Bool.{◌&&◌}
 use Rattle.state.specs.Block.{same_block}
-use Rattle.layout.specs.Places.{block_length}
-use Rattle.layout.specs.Cells.{block_in}
-use Rattle.range.proofs.Together.{each_beside}
+use Rattle.range.proofs.Pieces.{same_four}
 use Rattle.range.proofs.fours.four_same.Goals as goal
 
 pub returns : goal.returns
-returns c =
-    let args = c.args in
-    let f : ℕ → ℕ → Bool = λ k l. same_block (block_in args.room.now k) (block_in args.room.now l) in
-    let at = args.at in
-    let others = args.others in
-    let a = f at others in
-    let b = f (at + block_length) (others + block_length) in
-    let x = f (at + block_length * 2) (others + block_length * 2) in
-    let y = f (at + block_length * 3) (others + block_length * 3) in
-    let last : at + block_length * 2 + block_length ≡ at + block_length * 3 = omega arith in
-    let beside : others + block_length * 2 + block_length ≡ others + block_length * 3 = omega arith in
-    ap₂ ◌&&◌ c.two_same.ensures (c.two_same-2.ensures ∙ ap₂ (λ (k l : ℕ). x && f k l) last beside)
-    ∙ sym (and_assoc (a && b) x y)
-    ∙ each_beside f at others
+returns c = λ h.
+    let a = c.same.ensures ∙ ap₂ same_block c.block.ensures c.block-2.ensures in
+    let b = c.same-2.ensures ∙ ap₂ same_block c.block-3.ensures c.block-4.ensures in
+    let d = c.same-3.ensures ∙ ap₂ same_block c.block-5.ensures c.block-6.ensures in
+    let e = c.same-4.ensures ∙ ap₂ same_block c.block-7.ensures c.block-8.ensures in
+    same_four c.args.a.now c.args.b.now c.told-a c.told-b (sym (λ i. a i && b i && d i && e i) ∙ h)

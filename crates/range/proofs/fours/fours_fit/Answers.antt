@@ -1,39 +1,35 @@
 -- `range::fours::fours_fit` meets its contract: blank blocks are in range, and the others are judged one way or the other.
-use Prim.Native.Nat.{ℕ, zero, suc, ◌+◌, ◌*◌, ◌≤◌}
-use mathlib.Core.Path.{◌≡◌, ◌∙◌, sym}
-use mathlib.Core.Bool.{Bool, false, true≢false}
-use native.Mathlib.Omega.{arith}
+use mathlib.Core.Path.{◌≡◌, refl, ◌∙◌, sym, ap, subst}
+use mathlib.Core.Bool.{true}
+use Rattle.std.proofs.Common.{rules, tests}
+use Rattle.std.specs.List.{list_all}
+use Rattle.std.proofs.lemmas.Iterator.{YieldsList-from_slice}
+use Rattle.std.proofs.lemmas.Iterator.Search.{all_from_yields_List}
+use Rattle.lemmas.proofs.Tests.{and_intro, goes_on}
 use Rattle.command.specs.Tops.{value_by}
-use Rattle.quorum.specs.Sets.{all_below}
-use Rattle.quorum.proofs.AllBelow.{all_none, all_at, all_intro}
+use Rattle.state.specs.declared.Block.{Block}
 use Rattle.state.specs.Block.{blank, same_block}
-use Rattle.layout.specs.Places.{block_length}
-use Rattle.range.specs.Range.{blocks_from, of_four}
-use Rattle.range.proofs.Together.{blank_four}
+use Rattle.layout.specs.Cells.{block_in}
+use Rattle.range.specs.Range.{block_fits, every_block}
+use Rattle.range.proofs.Together.{zero_by, same_block_lem}
+use Rattle.range.proofs.Pieces.{list_all_then}
 use Rattle.range.proofs.fours.fours_fit.Goals as goal
 
--- of no four all are blank
-some : (n : ℕ) (f : ℕ → Bool) → all_below n f ≡ false → 1 ≤ n
-some zero f e = absurd (true≢false (sym (all_none f) ∙ e))
-some (suc n) f e = omega arith
-
 pub returns-then-all_blank : goal.returns-then-all_blank
+unfolding block_fits
 returns-then-all_blank c =
-    let args = c.args in
-    let room = args.room.now in
-    let at : ℕ → ℕ = λ q. args.first + block_length * (4 * q) in
+    let tops = c.args.tops.now in
+    let one = λ (b : Block) (h : same_block blank b ≡ true).
+        subst (λ (x : Block). block_fits (value_by tops) x ≡ true) (same_block_lem blank b h)
+        (and_intro _ _ refl (and_intro _ _ (zero_by tops) (zero_by tops))) in
     sym
-    (all_intro args.count (λ q. blocks_from (value_by args.tops.now) room (at q) 4)
-    (λ q l.
-    blank_four args.tops.now room (at q)
-    (all_at args.count (λ k. of_four (same_block blank) room (at k)) (sym c.all_blank.ensures ∙ c.if-all_blank.true) q l)))
+    (list_all_then (every_block (same_block blank)) (every_block (block_fits (value_by tops)))
+    (list_all_then (λ cells. same_block blank (block_in cells 0)) (λ cells. block_fits (value_by tops) (block_in cells 0)) (λ cells. one (block_in cells 0)))
+    c.args.fours.now (sym c.all_blank.ensures ∙ c.if-all_blank.true))
 
--- past the blank ones there is a four
-pub common_value-v-requires : goal.common_value-v-requires
-common_value-v-requires c = let h = some _ _ (sym c.all_blank.ensures ∙ c.if-all_blank.false) in omega arith
-
-pub four_hold-requires : goal.four_hold-requires
-four_hold-requires c = let h = some _ _ (sym c.all_blank.ensures ∙ c.if-all_blank.false) in omega arith
-
-pub fours_in_turn-requires : goal.fours_in_turn-requires
-fours_in_turn-requires c = (some _ _ (sym c.all_blank.ensures ∙ c.if-all_blank.false), omega arith)
+pub returns-then-four_fits : goal.returns-then-four_fits
+returns-then-four_fits c =
+    let test = every_block (block_fits (value_by c.args.tops.now)) in
+    let others = all_from_yields_List test _ _ _ c.all-then-four_fits.ensures.ran (YieldsList-from_slice c.in-Some.others.now cc) (λ x b q k. search (rules, tests)) in
+    goes_on _ _ _ (sym c.four_fits.ensures ∙ c.if-four_fits.true) others
+    ∙ sym (ap (list_all test) c.in-Some.ensures.cases.0)
