@@ -20,17 +20,17 @@ type Four = [[u32; BLOCK_CELLS]; 4];
 pub(crate) fn fours_fit(tops: &[u8; 96], fours: &[Four]) -> bool
     ensures { result ≡ list_all (every_block (block_fits (value_by tops.now))) fours.now }
 {
+    let Some(first) = fours.first() else {
+        return true;
+    };
     if all_blank(fours) {
         return true;
     }
-    let Some((first, others)) = fours.split_first() else {
-        return true;
-    };
     let v = common_value(tops, first);
     if four_hold(first, v) {
         return fours.iter().all(|four| four_with(tops, four, v));
     }
-    four_fits(tops, first) && others.iter().all(|four| four_like(tops, first, four))
+    four_fits(tops, first) && fours.iter().all(|four| four_like(tops, first, four))
 }
 
 // Whether no block of these fours was written.

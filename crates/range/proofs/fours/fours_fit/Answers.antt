@@ -1,11 +1,7 @@
 -- `range::fours::fours_fit` meets its contract: blank blocks are in range, and the others are judged one way or the other.
-use mathlib.Core.Path.{◌≡◌, refl, ◌∙◌, sym, ap, subst}
+use mathlib.Core.Path.{◌≡◌, refl, ◌∙◌, sym, subst}
 use mathlib.Core.Bool.{true}
-use Rattle.std.proofs.Common.{rules, tests}
-use Rattle.std.specs.List.{list_all}
-use Rattle.std.proofs.lemmas.Iterator.{YieldsList-from_slice}
-use Rattle.std.proofs.lemmas.Iterator.Search.{all_from_yields_List}
-use Rattle.lemmas.proofs.Tests.{and_intro, goes_on}
+use Rattle.lemmas.proofs.Tests.{and_intro}
 use Rattle.command.specs.Tops.{value_by}
 use Rattle.state.specs.declared.Block.{Block}
 use Rattle.state.specs.Block.{blank, same_block}
@@ -26,10 +22,3 @@ returns-then-all_blank c =
     (list_all_then (every_block (same_block blank)) (every_block (block_fits (value_by tops)))
     (list_all_then (λ cells. same_block blank (block_in cells 0)) (λ cells. block_fits (value_by tops) (block_in cells 0)) (λ cells. one (block_in cells 0)))
     c.args.fours.now (sym c.all_blank.ensures ∙ c.if-all_blank.true))
-
-pub returns-then-four_fits : goal.returns-then-four_fits
-returns-then-four_fits c =
-    let test = every_block (block_fits (value_by c.args.tops.now)) in
-    let others = all_from_yields_List test _ _ _ c.all-then-four_fits.ensures.ran (YieldsList-from_slice c.in-Some.others.now cc) (λ x b q k. search (rules, tests)) in
-    goes_on _ _ _ (sym c.four_fits.ensures ∙ c.if-four_fits.true) others
-    ∙ sym (ap (list_all test) c.in-Some.ensures.cases.0)
