@@ -1,11 +1,10 @@
 -- The masks that the code computes are the cells of legal marks: one computed test over all sizes of a room.
-use Prim.Native.Nat.{ℕ, ◌-◌, ◌*◌, ◌/◌, ◌%◌, ◌^◌, ◌<◌}
+use Prim.Native.Nat.{ℕ, ◌-◌, ◌*◌, ◌/◌, ◌%◌, ◌^◌}
 use mathlib.Core.Path.{◌≡◌, refl}
 use mathlib.Core.Bool.{Bool, true, ◌&&◌}
 use native.Mathlib.Omega.{arith}
 use lib.Dec.{eqb, ltb}
-use borrow.Author.Tests.{eqb-true, ltb-true}
-use Rattle.lemmas.proofs.Tests.{and_left, and_right}
+use borrow.Author.Tests.{eqb-true}
 use Rattle.quorum.specs.Sets.{all_below, gathered}
 use Rattle.quorum.proofs.AllBelow.{all_at}
 use Rattle.state.specs.declared.Sizes.{Sizes}
@@ -30,7 +29,7 @@ drives_right : ℕ → Bool
 drives_right d = eqb (drive_bits d) (drives_of d)
 
 reads_right : ℕ → ℕ → Bool
-reads_right n d = eqb (read_bits n d) (reads_of n d) && ltb (read_bits n d) 4294967296
+reads_right n d = eqb (read_bits n d) (reads_of n d)
 
 drives_table : all_below 8 drives_right ≡ true
 unfolding all_below drives_right gathered
@@ -47,18 +46,10 @@ module _ (z : Sizes) (f : Fit z) where
       eqb-true (drive_bits z.drives) (drives_of z.drives)
       (all_at 8 drives_right drives_table z.drives (omega (arith, f.drives)))
 
-  reads_at : reads_right z.servers z.drives ≡ true
-  reads_at =
-      all_at 8 (reads_right z.servers)
-      (all_at 5 (λ n. all_below 8 (reads_right n)) reads_table z.servers (omega (arith, f.servers)))
-      z.drives (omega (arith, f.drives))
-
   pub read_mask : read_bits z.servers z.drives ≡ legal_reads z
   unfolding legal_reads reads_right
-  read_mask = eqb-true (read_bits z.servers z.drives) (reads_of z.servers z.drives) (and_left _ _ reads_at)
-
-  pub read_mask_small : read_bits z.servers z.drives < 4294967296
-  unfolding reads_right
-  read_mask_small =
-      let bits = read_bits z.servers z.drives in
-      ltb-true bits 4294967296 (and_right (eqb bits (reads_of z.servers z.drives)) (ltb bits 4294967296) reads_at)
+  read_mask =
+      eqb-true (read_bits z.servers z.drives) (reads_of z.servers z.drives)
+      (all_at 8 (reads_right z.servers)
+      (all_at 5 (λ n. all_below 8 (reads_right n)) reads_table z.servers (omega (arith, f.servers)))
+      z.drives (omega (arith, f.drives)))

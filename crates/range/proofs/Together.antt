@@ -1,4 +1,4 @@
--- What is judged together: values by the table, the tests of four blocks, and a row of blocks by fours.
+-- What is judged together: values by the table, and the cells of a block.
 use Prim.Native.Nat.{ℕ}
 use mathlib.Core.Path.{◌≡◌, refl, ◌∙◌, ap}
 use mathlib.Core.Bool.{true, ◌&&◌, ◌||◌}
@@ -53,20 +53,18 @@ same_block_lem a b e =
     let done = eqb-true a.done b.done (and_right (eqb a.mbal b.mbal && eqb a.bal b.bal && eqb a.inp b.inp) (eqb a.done b.done) e) in
     λ i. record { mbal = mbal i; bal = bal i; inp = inp i; done = done i }
 
-module _ (tops : List ℕ) where
-  -- one value and no other: each is 0 or a value
-  module _ (v : ℕ) (known : value_by tops v ≡ true) where
-    either : (x : ℕ) → (eqb x 0 || eqb x v) ≡ true → value_by tops x ≡ true
-    either x e = by_case (or_either (eqb x 0) (eqb x v) e)
-      where
-        by_case : (eqb x 0 ≡ true) ⊎ (eqb x v ≡ true) → value_by tops x ≡ true
-        by_case (inl z) = ap (value_by tops) (eqb-true x 0 z) ∙ zero_by tops
-        by_case (inr s) = ap (value_by tops) (eqb-true x v s) ∙ known
+-- one value and no other: each is 0 or a value
+module _ (tops : List ℕ) (v : ℕ) (known : value_by tops v ≡ true) where
+  either : (x : ℕ) → (eqb x 0 || eqb x v) ≡ true → value_by tops x ≡ true
+  either x e = by_case (or_either (eqb x 0) (eqb x v) e)
+    where
+      by_case : (eqb x 0 ≡ true) ⊎ (eqb x v ≡ true) → value_by tops x ≡ true
+      by_case (inl z) = ap (value_by tops) (eqb-true x 0 z) ∙ zero_by tops
+      by_case (inr s) = ap (value_by tops) (eqb-true x v s) ∙ known
 
-    pub only_fits : (b : Block) → holds_only v b ≡ true → values_fit (value_by tops) b ≡ true
-    unfolding holds_only
-    only_fits b e =
-        let first = eqb b.inp 0 || eqb b.inp v in
-        let second = eqb b.done 0 || eqb b.done v in
-        and_intro _ _ (either b.inp (and_left first second e)) (either b.done (and_right first second e))
-
+  pub only_fits : (b : Block) → holds_only v b ≡ true → values_fit (value_by tops) b ≡ true
+  unfolding holds_only
+  only_fits b e =
+      let first = eqb b.inp 0 || eqb b.inp v in
+      let second = eqb b.done 0 || eqb b.done v in
+      and_intro _ _ (either b.inp (and_left first second e)) (either b.done (and_right first second e))

@@ -68,13 +68,6 @@ fn common_value(tops: &[u8; 96], four: &Four) -> u32
     if is_value(tops, v) { v } else { 0 }
 }
 
-#[tactic(auto, unfolding(crate::specs::Range::holds_only))]
-fn holds_only(v: u32, b: Block) -> bool
-    ensures { result ≡ holds_only v b }
-{
-    ((b.inp == 0) | (b.inp == v)) & ((b.done == 0) | (b.done == v))
-}
-
 fn four_blank(four: &Four) -> bool
     ensures { result ≡ every_block (same_block blank) four.now }
 {
@@ -86,6 +79,13 @@ fn four_hold(four: &Four, v: u32) -> bool
     ensures { result ≡ every_block (holds_only v) four.now }
 {
     all_at_once(four, |b| holds_only(v, b))
+}
+
+#[tactic(auto, unfolding(crate::specs::Range::holds_only))]
+fn holds_only(v: u32, b: Block) -> bool
+    ensures { result ≡ holds_only v b }
+{
+    ((b.inp == 0) | (b.inp == v)) & ((b.done == 0) | (b.done == v))
 }
 
 // Four blocks. Where they hold v and no other value, which is judged already, the table is not looked at.

@@ -26,6 +26,7 @@ pub struct Masks {
 }
 
 // A row of ones at every fourth bit, cut after the last drive, times the ones of the servers.
+#[tactic(auto, using(crate::proofs::MaskTable::drive_mask, crate::proofs::MaskTable::read_mask))]
 pub fn masks_of(z: Sizes) -> Masks
     requires { Fit z }
     ensures { result ≡ masks_of z }
@@ -71,6 +72,7 @@ fn slots_fit(tops: &[u8; 96], k: Masks, cells: &[u32], length: usize, records: u
     cells.chunks_exact(length).all(|slot| slot_fits(tops, k, slot, records))
 }
 
+// One slot: its server records, then its blocks.
 fn slot_fits(tops: &[u8; 96], k: Masks, slot: &[u32], records: usize) -> bool
     requires { records ≤ length slot.now }
     ensures { result ≡ slot_in (value_by tops.now) k records slot.now }
@@ -110,6 +112,7 @@ fn server_fits(tops: &[u8; 96], k: Masks, v: Server) -> bool
     numbers_fit(k, v) && own_values_fit(tops, v.inp, v.offer, v.seeninp, v.agreed)
 }
 
+#[tactic(auto, unfolding(crate::specs::Range::numbers_fit))]
 fn numbers_fit(k: Masks, v: Server) -> bool
     ensures { result ≡ numbers_fit k v }
 {

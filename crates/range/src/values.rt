@@ -8,6 +8,7 @@ use state::Block;
 
 // The values of a server record. Until the server meets a larger bal, its seeninp is its inp; and where its own ballot
 // settled the slot, so is what was agreed.
+#[tactic(auto, using(crate::proofs::Together::all_zero))]
 pub(crate) fn own_values_fit(
     tops: &[u8; 96],
     inp: u32,
