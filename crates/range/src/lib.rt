@@ -56,37 +56,67 @@ pub fn in_range(room: &[u32]) -> bool
     if !only_legal(room[layout::OFF], k.drives) {
         return false;
     }
-    let tops = tops_of(&limits);
+    let legal = Legal {
+        tops: tops_of(&limits),
+        marks: k,
+    };
     let records = SERVER_CELLS * (z.servers as usize);
-    slots_fit(&tops, k, &room[layout::BASE..], slot_length(z), records)
+    legal.slots_fit(&room[layout::BASE..], slot_length(z), records)
 }
 
-// Every slot of a row of them, each of `length` cells that begin with those of its server records. The table judges the
-// values, by the room's limits. Compiled by itself: where the back end knows that a slot has few blocks, it unrolls the
-// search for blank ones, and judging an empty room takes a tenth longer.
-#[inline(never)]
-fn slots_fit(tops: &[u8; 96], k: Masks, cells: &[u32], length: usize, records: usize) -> bool
-    requires { (0 < length) × (records ≤ length) }
-    ensures { result ≡ list_all (slot_in (value_by tops.now) k records) (pieces length cells.now) }
-{
-    cells.chunks_exact(length).all(|slot| slot_fits(tops, k, slot, records))
+// What a room's cells are judged by: the table of values, by the room's limits, and the legal marks.
+#[derive(Drop)]
+struct Legal {
+    tops: [u8; 96],
+    marks: Masks,
 }
 
-// One slot: its server records, then its blocks.
-fn slot_fits(tops: &[u8; 96], k: Masks, slot: &[u32], records: usize) -> bool
-    requires { records ≤ length slot.now }
-    ensures { result ≡ slot_in (value_by tops.now) k records slot.now }
-{
-    let (servers, blocks) = slot.split_at(records);
-    servers_fit(tops, k, servers) && blocks_fit(tops, blocks)
+impl Legal {
+    // Every slot of a row of them, each of `length` cells that begin with those of its server records.
+    fn slots_fit(&self, cells: &[u32], length: usize, records: usize) -> bool
+        requires { (0 < length) × (records ≤ length) }
+        ensures { result ≡ list_all (slot_in (value_by self.now.tops) self.now.marks records) (pieces length cells.now) }
+    {
+        cells.chunks_exact(length).all(|slot| self.slot_fits(slot, records))
+    }
+
+    // One slot: its server records, then its blocks.
+    fn slot_fits(&self, slot: &[u32], records: usize) -> bool
+        requires { records ≤ length slot.now }
+        ensures { result ≡ slot_in (value_by self.now.tops) self.now.marks records slot.now }
+    {
+        let (servers, blocks) = slot.split_at(records);
+        self.servers_fit(servers) && blocks_fit(&self.tops, blocks)
+    }
+
+    // The server records that stand one after the other.
+    fn servers_fit(&self, cells: &[u32]) -> bool
+        ensures { result ≡ list_all (λ r. server_fits (value_by self.now.tops) self.now.marks (server_in r 0)) (pieces server_length cells.now) }
+    {
+        let (records, _) = cells.as_chunks::<SERVER_CELLS>();
+        records.iter().all(|r| self.server_fits(server_in(r, 0)))
+    }
+
+    // One server record. Its numbers are judged together, then its values.
+    #[tactic(auto, unfolding(crate::specs::Range::server_fits))]
+    fn server_fits(&self, v: Server) -> bool
+        ensures { result ≡ server_fits (value_by self.now.tops) self.now.marks v }
+    {
+        numbers_fit(self.marks, v) && own_values_fit(&self.tops, v.inp, v.offer, v.seeninp, v.agreed)
+    }
 }
 
-// The server records that stand one after the other.
-fn servers_fit(tops: &[u8; 96], k: Masks, cells: &[u32]) -> bool
-    ensures { result ≡ list_all (λ r. server_fits (value_by tops.now) k (server_in r 0)) (pieces server_length cells.now) }
+#[tactic(auto, unfolding(crate::specs::Range::numbers_fit))]
+fn numbers_fit(k: Masks, v: Server) -> bool
+    ensures { result ≡ numbers_fit k v }
 {
-    let (records, _) = cells.as_chunks::<SERVER_CELLS>();
-    records.iter().all(|r| server_fits(tops, k, server_in(r, 0)))
+    (v.phase <= 3)
+        & Block::ballot_fits(v.mbal)
+        & Block::ballot_fits(v.bal)
+        & Block::ballot_fits(v.top)
+        & Block::ballot_fits(v.seenbal)
+        & only_legal(v.written, k.drives)
+        & only_legal(v.read, k.reads)
 }
 
 // The blocks that stand one after the other: four at a time, then the rest one by one.
@@ -102,25 +132,4 @@ fn rest_fit(tops: &[u8; 96], blocks: &[[u32; BLOCK_CELLS]]) -> bool
     ensures { result ≡ every_block (block_fits (value_by tops.now)) blocks.now }
 {
     blocks.iter().all(|cells| block_fits(tops, block(cells)))
-}
-
-// One server record. Its numbers are judged together, then its values.
-#[tactic(auto, unfolding(crate::specs::Range::server_fits))]
-fn server_fits(tops: &[u8; 96], k: Masks, v: Server) -> bool
-    ensures { result ≡ server_fits (value_by tops.now) k v }
-{
-    numbers_fit(k, v) && own_values_fit(tops, v.inp, v.offer, v.seeninp, v.agreed)
-}
-
-#[tactic(auto, unfolding(crate::specs::Range::numbers_fit))]
-fn numbers_fit(k: Masks, v: Server) -> bool
-    ensures { result ≡ numbers_fit k v }
-{
-    (v.phase <= 3)
-        & Block::ballot_fits(v.mbal)
-        & Block::ballot_fits(v.bal)
-        & Block::ballot_fits(v.top)
-        & Block::ballot_fits(v.seenbal)
-        & only_legal(v.written, k.drives)
-        & only_legal(v.read, k.reads)
 }

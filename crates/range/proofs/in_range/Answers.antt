@@ -98,5 +98,5 @@ returns c =
     (sym c.sizes_fit.ensures ∙ c.if-not-sizes_fit.false)
     (eq-eqb _ _ (omega (arith, c.if-room-room_length.false, c.room_length.ensures)))
     (sym judged ∙ c.if-not-only_legal.false)
-    (slots limits z row _ _ _ _ r c.tops_of-tops.ensures c.masks_of-k.ensures c.slot_length.ensures c.slots_fit.ensures)
+    (slots limits z row _ _ _ _ r c.tops_of.ensures c.masks_of-k.ensures c.slot_length.ensures c.slots_fit.ensures)
     ∙ sym (row_of limits z row c.limits-limits.ensures c.sizes-z.ensures c.if-room-lt-BASE.false)

@@ -1,4 +1,4 @@
--- `range::slots_fit` meets its contract: each of the slots that the row is cut into is judged.
+-- `range::Legal::slots_fit` meets its contract: each of the slots that the row is cut into is judged.
 use Prim.Native.Nat.{ℕ, ◌<◌, ◌/◌}
 use mathlib.Core.Path.{◌∙◌, ap₂}
 use mathlib.Core.List.{List}
@@ -11,11 +11,11 @@ use Rattle.std.proofs.lemmas.Iterator.Search.{all_from_yields_List}
 use Rattle.command.specs.Tops.{value_by}
 use Rattle.range.specs.Range.{slot_in}
 use Rattle.range.proofs.Pieces.{chunks_given}
-use Rattle.range.proofs.slots_fit.Goals as goal
+use Rattle.range.proofs.Legal.slots_fit.Goals as goal
 
 pub returns : goal.returns
 returns c =
-    let test = slot_in (value_by c.args.tops.now) c.args.k c.args.records in
+    let test = slot_in (value_by c.args.self.now.tops) c.args.self.now.marks c.args.records in
     let whole : 0 < chunks_exact_size c.chunks_exact.result = rw c.chunks_exact.ensures.size c.requires.0 in
     all_from_yields_List test _ _ _ c.all.ensures.ran
     (chunks_given chunks_exact_size chunks_exact_rest chunks_exact_steps (λ s t e. e.1.0) (λ s x t e. (e.0, e.1.0, e.1.1)) _ whole)
