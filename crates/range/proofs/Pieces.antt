@@ -118,7 +118,7 @@ every_chunk q n zero xs = refl
 every_chunk {X = X} q n (suc m) xs =
     let first : 0 ≡ 0 * n = omega arith in
     let next : (j : ℕ) → drop (j * n) (drop n xs) ≡ drop (suc j * n) xs
-        = λ j. let e : n + j * n ≡ suc j * n = omega arith in drop-drop (j * n) n xs ∙ ap (λ (k : ℕ). drop k xs) e in
+    = λ j. let e : n + j * n ≡ suc j * n = omega arith in drop-drop (j * n) n xs ∙ ap (λ (k : ℕ). drop k xs) e in
     ap (λ (t : Bool). q (take n xs) && t) (every_chunk q n m (drop n xs) ∙ (λ i. all_below m (λ j. q (take n (next j i)))))
     ∙ ap (λ (k : ℕ). q (take n (drop k xs)) && all_below m (λ j. q (take n (drop (suc j * n) xs)))) first
     ∙ sym (all_first m (λ j. q (take n (drop (j * n) xs))))
@@ -137,6 +137,7 @@ one_more n m a b xs e l h =
   where
     front : take n (a ++ b) ≡ a
     front = ap (λ (k : ℕ). take k (a ++ b)) (sym l) ∙ take-append_seam a b
+
     back : drop n (a ++ b) ≡ b
     back = ap (λ (k : ℕ). drop k (a ++ b)) (sym l) ∙ drop-append_seam a b
 
@@ -149,27 +150,28 @@ module _
     {S : Type 0} (size : S → ℕ) (rest : S → List ℕ) (steps : S → Option (Bor (List ℕ)) → S → Type 0)
     (ends : (s t : S) → steps s None t → length (rest s) < size s)
     (takes
-        : (s : S) (x : Bor (List ℕ)) (t : S) → steps s (Some x) t
-        → (size t ≡ size s) × (rest s ≡ x.now ++ rest t) × (length x.now ≡ size s))
+    : (s : S) (x : Bor (List ℕ)) (t : S) → steps s (Some x) t
+    → (size t ≡ size s) × (rest s ≡ x.now ++ rest t) × (length x.now ≡ size s))
   where
-  abbrev shown : S → List (List ℕ)
-  shown s = first_chunks (size s) (length (rest s) / size s) (rest s)
+    abbrev shown : S → List (List ℕ)
+    shown s = first_chunks (size s) (length (rest s) / size s) (rest s)
 
-  none : (s t : S) → 0 < size s → steps s None t → length (shown s) ≡ 0
-  none s t p e = length_chunks (size s) (length (rest s) / size s) (rest s) ∙ div-eq_of_lt (ends s t e)
+    none : (s t : S) → 0 < size s → steps s None t → length (shown s) ≡ 0
+    none s t p e = length_chunks (size s) (length (rest s) / size s) (rest s) ∙ div-eq_of_lt (ends s t e)
 
-  some
-      : (s : S) (x : Bor (List ℕ)) (t : S) → 0 < size s → steps s (Some x) t → (0 < size t) × (shown s ≡ x.now ∷ shown t)
-  some s x t p e =
-      let k = takes s x t e in
-      let same : size t ≡ size s = k.0 in
-      let long : length (rest s) ≡ size s + length (rest t)
-          = ap length k.1 ∙ length-append x.now (rest t) ∙ ap (λ (j : ℕ). j + length (rest t)) k.2 in
-      let more : length (rest s) / size s ≡ suc (length (rest t) / size s)
-          = ap (λ (j : ℕ). j / size s) long ∙ add-div_left (length (rest t)) p ∙ add-one (length (rest t) / size s) in
-      (omega arith,
-      one_more (size s) (length (rest s) / size s) x.now (rest t) (rest s) k.1 k.2 more
-      ∙ ap (λ (j : ℕ). x.now ∷ first_chunks j (length (rest t) / j) (rest t)) (sym same))
+    some
+        : (s : S) (x : Bor (List ℕ)) (t : S) → 0 < size s → steps s (Some x) t → (0 < size t) × (shown s ≡ x.now ∷ shown t)
+    some s x t p e =
+        let k = takes s x t e in
+        let same : size t ≡ size s = k.0 in
+        let long : length (rest s) ≡ size s + length (rest t)
+        = ap length k.1 ∙ length-append x.now (rest t) ∙ ap (λ (j : ℕ). j + length (rest t)) k.2 in
+        let more : length (rest s) / size s ≡ suc (length (rest t) / size s)
+        = ap (λ (j : ℕ). j / size s) long ∙ add-div_left (length (rest t)) p ∙ add-one (length (rest t) / size s) in (
+          omega arith,
+          one_more (size s) (length (rest s) / size s) x.now (rest t) (rest s) k.1 k.2 more
+              ∙ ap (λ (j : ℕ). x.now ∷ first_chunks j (length (rest t) / j) (rest t)) (sym same),
+        )
 
-  pub chunks_given : (s : S) → 0 < size s → YieldsList steps (λ x. x.now) s (shown s)
-  chunks_given s h = YieldsList-from_shown_while steps (λ x. x.now) shown (λ t. 0 < size t) none some s h
+    pub chunks_given : (s : S) → 0 < size s → YieldsList steps (λ x. x.now) s (shown s)
+    chunks_given s h = YieldsList-from_shown_while steps (λ x. x.now) shown (λ t. 0 < size t) none some s h

@@ -75,7 +75,7 @@ module _ (value : ℕ → Bool) (z : Sizes) (row : List ℕ) (r : Row z row) whe
     servers =
         let e = long in
         let m : length (take records (slot s)) / server_length ≡ z.servers
-            = ap (λ (k : ℕ). k / server_length) (length-take-le records (slot s) (omega arith)) ∙ omega arith in
+        = ap (λ (k : ℕ). k / server_length) (length-take-le records (slot s) (omega arith)) ∙ omega arith in
         ap (λ (k : ℕ). list_all (λ cells. server_fits value (masks_of z) (server_in cells 0)) (first_chunks server_length k (take records (slot s)))) m
         ∙ every_chunk (λ cells. server_fits value (masks_of z) (server_in cells 0)) server_length z.servers (take records (slot s))
         ∙ all_below_same z.servers _ _

@@ -30,14 +30,8 @@ pub(crate) fn fours_fit(tops: &[u8; 96], fours: &[Four]) -> bool
     if four_hold(first, v) {
         return fours.iter().all(|four| four_with(tops, four, v));
     }
+    // A server writes the same block to every drive, so the others are often the first four again.
     four_fits(tops, first) && fours.iter().all(|four| four_like(tops, first, four))
-}
-
-// Whether no block of these fours was written.
-fn all_blank(fours: &[Four]) -> bool
-    ensures { result ≡ list_all (every_block (same_block blank)) fours.now }
-{
-    fours.iter().all(|four| four_blank(four))
 }
 
 // A block by its cells.
@@ -47,12 +41,25 @@ pub(crate) fn block(cells: &[u32; BLOCK_CELLS]) -> Block
     block_in(cells, 0)
 }
 
-// Whether each of the four passes a test, all judged with no branch between them.
+// Whether each of the four passes a test, with no branch between them, so that the back end makes vectors.
 fn all_at_once<F: Fn(Block) -> bool>(four: &Four, test: F) -> bool
     requires { F.IsAlwaysCallable test }
     ensures { (p : Block → Bool) → ((b : Block) (r : Bool) → F.post test b r → r ≡ p b) → result ≡ every_block p four.now }
 {
     test(block(&four[0])) & test(block(&four[1])) & test(block(&four[2])) & test(block(&four[3]))
+}
+
+// Whether no block of these fours was written.
+fn all_blank(fours: &[Four]) -> bool
+    ensures { result ≡ list_all (every_block (same_block blank)) fours.now }
+{
+    fours.iter().all(|four| four_blank(four))
+}
+
+fn four_blank(four: &Four) -> bool
+    ensures { result ≡ every_block (same_block blank) four.now }
+{
+    all_at_once(four, |b| Block::BLANK.same(b))
 }
 
 // The value of four blocks that hold one and no other; of others any value.
@@ -66,12 +73,6 @@ fn common_value(tops: &[u8; 96], four: &Four) -> u32
     let d = block(&four[3]);
     let v = a.inp | a.done | b.inp | b.done | c.inp | c.done | d.inp | d.done;
     if is_value(tops, v) { v } else { 0 }
-}
-
-fn four_blank(four: &Four) -> bool
-    ensures { result ≡ every_block (same_block blank) four.now }
-{
-    all_at_once(four, |b| Block::BLANK.same(b))
 }
 
 // Whether four blocks hold no value but v.
@@ -108,7 +109,7 @@ fn four_values_fit(tops: &[u8; 96], four: &Four) -> bool
     four.iter().all(|cells| values_fit(tops, block(cells)))
 }
 
-// Four blocks, beside four that are in range. A server writes the same block to every drive, so they are often the same.
+// Four blocks, beside four that are in range.
 fn four_like(tops: &[u8; 96], judged: &Four, four: &Four) -> bool
     requires { every_block (block_fits (value_by tops.now)) judged.now ≡ true }
     ensures { result ≡ every_block (block_fits (value_by tops.now)) four.now }
@@ -116,7 +117,7 @@ fn four_like(tops: &[u8; 96], judged: &Four, four: &Four) -> bool
     four_same(judged, four) || four_fits(tops, four)
 }
 
-// Whether two fours are alike, block by block.
+// Whether two fours are alike, by pairs of blocks. `==` of the arrays stops at each cell, and a full room takes a fifth longer.
 fn four_same(a: &Four, b: &Four) -> bool
     ensures { result ≡ true → blocks_of b.now ≡ blocks_of a.now }
 {

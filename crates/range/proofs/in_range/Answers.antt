@@ -33,7 +33,7 @@ slots
     → x ≡ all_below z.slots (slot_fits (value_fits limits) z row)
 slots limits z row tops k l x r e f h judged =
     let whole : take (length row - base) (drop base row) ≡ drop base row
-        = take_all (length row - base) (drop base row) (omega (arith, length-drop base row)) in
+    = take_all (length row - base) (drop base row) (omega (arith, length-drop base row)) in
     judged
     ∙ (λ i. list_all (slot_in (value_by (e i)) (f i) (server_length * z.servers)) (pieces (h i) (whole i)))
     ∙ slots_as_rule (value_by (tops_of limits)) z row r

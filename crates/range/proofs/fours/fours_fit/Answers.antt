@@ -16,8 +16,8 @@ unfolding block_fits
 returns-then-all_blank c =
     let tops = c.args.tops.now in
     let one = λ (b : Block) (h : same_block blank b ≡ true).
-        subst (λ (x : Block). block_fits (value_by tops) x ≡ true) (same_block_lem blank b h)
-        (and_intro _ _ refl (and_intro _ _ (zero_by tops) (zero_by tops))) in
+    subst (λ (x : Block). block_fits (value_by tops) x ≡ true) (same_block_lem blank b h)
+    (and_intro _ _ refl (and_intro _ _ (zero_by tops) (zero_by tops))) in
     sym
     (list_all_then (every_block (same_block blank)) (every_block (block_fits (value_by tops)))
     (list_all_then (λ cells. same_block blank (block_in cells 0)) (λ cells. block_fits (value_by tops) (block_in cells 0)) (λ cells. one (block_in cells 0)))
