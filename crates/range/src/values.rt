@@ -49,7 +49,8 @@ pub(crate) fn ballots_fit(b: Block) -> bool
     Block::ballot_fits(b.mbal) & Block::ballot_fits(b.bal)
 }
 
-// The values of a block. Mostly there is no done, or it is the inp.
+// The values of a block. Mostly there is no done, or it is the inp. It shares only `value_beside` with a server record, which
+// has an offer beside no other value: a list of the values beside the inp would be longer than the two expressions.
 pub(crate) fn values_fit(tops: &[u8; 96], b: Block) -> bool
     ensures { result ≡ values_fit (value_by tops.now) b }
 {
