@@ -1,54 +1,60 @@
--- What room for a line means, the parts of a line in the order of the code, and that no line is longer than line_max.
+-- What room for a line means, a line put behind a text, and that no line is longer than line_max.
 use Prim.Native.Nat.{ℕ, ◌+◌, ◌-◌, ◌^◌, ◌≤◌, ◌<◌}
 use native.Mathlib.Omega.{arith}
-use mathlib.Core.Path.{◌≡◌, ◌∙◌, sym, ap, subst}
+use mathlib.Core.Path.{◌≡◌, ◌∙◌, sym, ap}
 use mathlib.Core.Bool.{Bool, true, false, cond}
 use mathlib.Core.List.{List, ◌++◌, append_assoc}
-use lib.ListN.{length, length-append}
+use lib.ListN.{length, take, drop, length-append}
 use lib.Dec.{leb}
+use lib.Seq.{drop-drop}
+use borrow.Rule.Slice.PartMut.{put_mid}
 use borrow.Author.Tests.{le-leb, lt-leb, leb-true, leb-false}
 use Rattle.lemmas.proofs.Tests.{by_test, same_test}
 use Rattle.state.specs.declared.Answer.{Answer}
 use Rattle.state.specs.declared.Answer.TheVariants.{Done, Outbid, Chosen, Committed, Refused}
 use Rattle.state.specs.Answers.{number_of}
-use Rattle.transcript.specs.Text.{bytes, digits}
-use Rattle.transcript.specs.Lines.{word_of, step_line, server_line, open_line, line_max, placed, Put, has_room, Printed}
+use Rattle.transcript.specs.Lines.{word_of, step_line, server_line, open_line, line_max, placed, has_room, Printed}
 use Rattle.transcript.proofs.DigitLaws.{digits_ten}
 
 -- the test for room, as the code makes it
-pub no_room : (size at : ℕ) → size < line_max → has_room size at ≡ false
+pub room_left : (size at : ℕ) → leb line_max (size - at) ≡ has_room size at
 unfolding has_room
-no_room size at h = lt-leb (at + line_max) size (omega arith)
-
-pub room_left : (size at : ℕ) → line_max ≤ size → leb at (size - line_max) ≡ has_room size at
-unfolding has_room
-room_left size at h =
-    same_test (leb at (size - line_max)) (leb (at + line_max) size)
-    (λ e. le-leb (at + line_max) size (omega (arith, leb-true at (size - line_max) e)))
-    (λ e. le-leb at (size - line_max) (omega (arith, leb-true (at + line_max) size e)))
+room_left size at =
+    same_test (leb line_max (size - at)) (leb (at + line_max) size)
+    (λ e. le-leb (at + line_max) size (omega (arith, leb-true line_max (size - at) e)))
+    (λ e. le-leb line_max (size - at) (omega (arith, leb-true (at + line_max) size e)))
 
 -- what that test says: room for the longest line, a line put into it, or, where the answer r is no, nothing done
 pub room_for : (size at : ℕ) → has_room size at ≡ true → at + line_max ≤ size
 unfolding has_room
 room_for size at e = leb-true (at + line_max) size e
 
+-- a line copied to its place
+placed_copy : (l line : List ℕ) (at : ℕ) → put_mid at (at + length line - at) l line ≡ placed l at line
+unfolding placed
+placed_copy l line at =
+    let size : at + length line - at ≡ length line = omega arith in
+    ap (λ (k : ℕ). put_mid at k l line) size
+    ∙ ap (λ (r : List ℕ). take at l ++ (line ++ r)) (drop-drop (length line) at l)
+    ∙ sym (append_assoc (take at l) line (drop (at + length line) l))
+
 pub printed
-    : {l m : List ℕ} {at next : ℕ} {line : List ℕ} → has_room (length l) at ≡ true → Put l at line m next
-    → Printed l at line m next
-printed {l} {m} {at} {next} {line} room p =
+    : {l m line : List ℕ} {at k : ℕ} → has_room (length l) at ≡ true → m ≡ line → k ≡ length line
+    → Printed l at line (put_mid at (at + k - at) l m) (at + k)
+printed {l} {m} {line} {at} {k} room e size =
     record {
-      place = p.place ∙ sym (ap (λ (b : Bool). cond b (at + length line) at) room);
-      contents = p.contents ∙ sym (ap (λ (b : Bool). cond b (placed l at line) l) room);
+      place = ap (λ (n : ℕ). at + n) size ∙ sym (ap (λ (b : Bool). cond b (at + length line) at) room);
+      contents =
+          ap (λ (n : ℕ). put_mid at (at + n - at) l m) size
+          ∙ ap (put_mid at (at + length line - at) l) e
+          ∙ placed_copy l line at
+          ∙ sym (ap (λ (b : Bool). cond b (placed l at line) l) room);
     }
 
-pub unprinted
-    : {l line : List ℕ} {at : ℕ} {r : Bool} → r ≡ has_room (length l) at → r ≡ false → Printed l at line l at
-unprinted {l} {line} {at} {r} e f =
-    let none : has_room (length l) at ≡ false = sym e ∙ f in
-    record {
-      place = sym (ap (λ (b : Bool). cond b (at + length line) at) none);
-      contents = sym (ap (λ (b : Bool). cond b (placed l at line) l) none);
-    }
+-- bytes put into a buffer that has room for them: the buffer then, and the place after them
+pub record Put (buffer : List ℕ) (at : ℕ) (text then : List ℕ) (next : ℕ) : Type 0 where
+  pub place : next ≡ at + length text
+  pub contents : then ≡ placed buffer at text
 
 -- what a caller learns: with room the line stands in the buffer, without room nothing has changed
 pub with_room
@@ -81,22 +87,8 @@ next_within {l} {m} {at} {next} {line} p short h =
     (λ e. let room : at + line_max ≤ length l = leb-true (at + line_max) (length l) e in omega (arith, (with_room p room).place))
     (λ e. omega (arith, (without_room p (leb-false (at + line_max) (length l) e)).0))
 
--- a server's line as the code makes it, of three numbers with their labels
-regrouped : (a b c d e f g : List ℕ) → (a ++ b) ++ (c ++ d) ++ (e ++ f) ++ g ≡ a ++ b ++ c ++ d ++ e ++ f ++ g
-regrouped a b c d e f g = simp append_assoc
-
-pub server_parts
-    : (server taken skipped : ℕ) {l m : List ℕ} {at next : ℕ}
-    → Printed l at ((bytes "server " ++ digits server) ++ (bytes " taken " ++ digits taken) ++ (bytes " skipped " ++ digits skipped) ++ bytes "\n") m next
-    → Printed l at (server_line server taken skipped) m next
-unfolding server_line
-server_parts server taken skipped {l} {m} {at} {next} p =
-    subst (λ (line : List ℕ). Printed l at line m next)
-    (regrouped (bytes "server ") (digits server) (bytes " taken ") (digits taken) (bytes " skipped ") (digits skipped) (bytes "\n"))
-    p
-
 -- no line is longer than line_max
-word_length : (a : Answer) → length (word_of a) ≤ 9
+pub word_length : (a : Answer) → length (word_of a) ≤ 9
 word_length Done = omega arith
 word_length (Outbid b) = omega arith
 word_length (Chosen c) = omega arith

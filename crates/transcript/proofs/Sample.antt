@@ -2,8 +2,9 @@
 use mathlib.Core.Path.{◌≡◌, refl}
 use mathlib.Core.List.{◌++◌}
 use lib.ListN.{length}
+use lib.Chars.{codes}
 use Rattle.state.specs.declared.Answer.TheVariants.{Done, Chosen, Committed, Refused}
-use Rattle.transcript.specs.Text.{bytes, digits_in, digits}
+use Rattle.transcript.specs.Text.{digits_in, digits}
 use Rattle.transcript.specs.Lines.{step_line, server_line, open_line, line_max}
 
 pub sample
@@ -16,11 +17,11 @@ pub sample
     ++ step_line 6 Done
     ++ step_line 7 (Committed 66825)
     ++ server_line 0 1 0
-    ≡ bytes "0 done 0\n1 refused 10\n2 done 0\n3 done 0\n4 done 0\n5 chosen 66825\n6 done 0\n7 committed 66825\nserver 0 taken 1 skipped 0\n"
+    ≡ codes "0 done 0\n1 refused 10\n2 done 0\n3 done 0\n4 done 0\n5 chosen 66825\n6 done 0\n7 committed 66825\nserver 0 taken 1 skipped 0\n"
 unfolding digits_in digits step_line server_line
 sample = refl
 
-pub open_sample : open_line 14 ≡ bytes "open refused 14\n"
+pub open_sample : open_line 14 ≡ codes "open refused 14\n"
 unfolding digits_in digits open_line
 open_sample = refl
 

@@ -1,13 +1,5 @@
--- Words and numbers as bytes.
+-- Numbers as bytes.
 use Rattle.std.specs.Prelude.{ℕ, zero, suc, ◌+◌, ◌/◌, ◌%◌, Bool, true, false, List, [], ◌∷◌, ◌++◌, ltb}
-use Prim.Native.Char.{code}
-use Prim.Native.String as string
-use Prim.Native.String.{String}
-
--- the bytes of a text in ASCII
-abbrev pub bytes : String → List ℕ
-bytes string.[] = []
-bytes (string.◌∷◌ c s) = code c ∷ bytes s
 
 -- up to k decimal digits of n, given whether n is below 10: then n is the only digit; else its last digit follows the
 -- digits of n / 10

@@ -1,111 +1,132 @@
-// The lines that the program rehearse prints. A public function puts one line into a lent buffer and answers the place
-// after it; where the longest line would have no room, it changes nothing and answers the place that it was given.
+// The lines that the program rehearse prints, one after the other in a lent buffer.
 #![tactic(auto)]
 
-ghost use Rattle.std.specs.Prelude.{◌≡◌, ◌+◌, ◌≤◌, ◌++◌, length};
+ghost use Rattle.std.specs.Prelude.{◌≡◌, ◌+◌, ◌<◌, ◌≤◌, ◌++◌, length, codes};
+ghost use Rattle.arrayvec.specs.ArrayString.{array_string_len};
 ghost use Rattle.transcript.specs.Text.{digits};
-ghost use Rattle.transcript.specs.Lines.{answer_text, step_line, server_line, open_line, has_room, Put, Printed};
+ghost use Rattle.transcript.specs.Lines.{answer_text, step_line, server_line, open_line, line_max, has_room, Prints};
 
+use arrayvec::ArrayString;
+use itoa::Buffer;
 use state::Answer;
 
 // The longest line: "server ", " taken ", " skipped ", three numbers of ten digits, and the line's end.
 pub const LINE_MAX: usize = 54;
 
-// The line of a step: its index, the answer word, the number.
-pub fn step_line(out: &mut [u8], at: usize, index: u32, answer: Answer) -> usize
-    ensures { Printed out.old at (step_line index answer) out.new result }
-{
-    if !has_room(out.len(), at) {
-        return at;
-    }
-    let indexed = put_number(out, at, index);
-    let answered = put_answer(out, indexed, answer);
-    put(out, answered, b"\n")
+// A line as it grows. Its parts are pushed, since `write!` says what it has written only where it answers Ok, and no
+// contract says that it does.
+type Line = ArrayString<LINE_MAX>;
+
+// The text so far, at the start of a lent buffer. Each line goes behind it; where the longest line would have no room,
+// nothing changes.
+#[derive(Drop)]
+pub struct Transcript<'a> {
+    pub buffer: &'a mut [u8],
+    pub length: usize,
 }
 
-// The line of a server: how many commands its catalogue took, and how many of them it skipped.
-pub fn server_line(out: &mut [u8], at: usize, server: u32, taken: u32, skipped: u32) -> usize
-    ensures { Printed out.old at (server_line server taken skipped) out.new result }
-{
-    if !has_room(out.len(), at) {
-        return at;
+impl<'a> Transcript<'a> {
+    // No text yet.
+    pub fn new(buffer: &'a mut [u8]) -> Transcript<'a>
+        ensures same_reference { result.buffer.ghost_name ≡ buffer.entry.ghost_name }
+        ensures contents { result.buffer.now ≡ buffer.old }
+        ensures empty { result.length ≡ 0 }
+    {
+        Transcript { buffer, length: 0 }
     }
-    let named = put_field(out, at, b"server ", server);
-    let counted = put_field(out, named, b" taken ", taken);
-    let ended = put_field(out, counted, b" skipped ", skipped);
-    put(out, ended, b"\n")
-}
 
-// The only line of a run whose open is refused.
-pub fn open_line(out: &mut [u8], at: usize, number: u32) -> usize
-    ensures { Printed out.old at (open_line number) out.new result }
-{
-    if !has_room(out.len(), at) {
-        return at;
+    // The line of a step: its index, the answer word, the number.
+    #[tactic(auto, unfolding(crate::specs::Lines::step_line))]
+    pub fn step_line(&mut self, index: u32, answer: Answer)
+        ensures printed { Prints self.old (step_line index answer) self.new }
+        ensures same_reference { self.new.buffer.ghost_name ≡ self.old.buffer.ghost_name }
+    {
+        let mut line = Line::new();
+        push_number(&mut line, index);
+        push_answer(&mut line, answer);
+        self.put_line(line);
     }
-    let refused = put_field(out, at, b"open refused ", number);
-    put(out, refused, b"\n")
-}
 
-// Whether the longest line has room from a place on.
-fn has_room(size: usize, at: usize) -> bool
-    ensures { result ≡ has_room size at }
-{
-    if size < LINE_MAX {
-        return false;
+    // The line of a server: how many commands its catalogue took, and how many of them it skipped.
+    #[tactic(auto, unfolding(crate::specs::Lines::server_line))]
+    pub fn server_line(&mut self, server: u32, taken: u32, skipped: u32)
+        ensures printed { Prints self.old (server_line server taken skipped) self.new }
+        ensures same_reference { self.new.buffer.ghost_name ≡ self.old.buffer.ghost_name }
+    {
+        let mut line = Line::new();
+        push_field(&mut line, "server ", server);
+        push_field(&mut line, " taken ", taken);
+        push_field(&mut line, " skipped ", skipped);
+        self.put_line(line);
     }
-    at <= size - LINE_MAX
+
+    // The only line of a run whose open is refused.
+    #[tactic(auto, unfolding(crate::specs::Lines::open_line))]
+    pub fn open_line(&mut self, number: u32)
+        ensures printed { Prints self.old (open_line number) self.new }
+        ensures same_reference { self.new.buffer.ghost_name ≡ self.old.buffer.ghost_name }
+    {
+        let mut line = Line::new();
+        push_field(&mut line, "open refused ", number);
+        self.put_line(line);
+    }
+
+    // Ends the line and puts it behind the text.
+    #[tactic(auto, using(crate::proofs::LineLaws::room_for))]
+    fn put_line(&mut self, mut line: Line)
+        requires { array_string_len line < line_max }
+        ensures printed { Prints self.old (line.bytes ++ codes "\n") self.new }
+        ensures same_reference { self.new.buffer.ghost_name ≡ self.old.buffer.ghost_name }
+    {
+        line.push_str("\n");
+        if !self.has_room() {
+            return;
+        }
+        let end = self.length + line.len();
+        self.buffer[self.length..end].copy_from_slice(line.as_str().as_bytes());
+        self.length = end;
+    }
+
+    // Whether the longest line has room behind the text.
+    #[tactic(auto, using(crate::proofs::LineLaws::room_left))]
+    fn has_room(&self) -> bool
+        ensures { result ≡ has_room (length self.now.buffer.now) self.now.length }
+    {
+        LINE_MAX <= self.buffer.len().saturating_sub(self.length)
+    }
 }
 
 // The word and the number of an answer, each after a space: 21 bytes at most.
-fn put_answer(out: &mut [u8], at: usize, answer: Answer) -> usize
-    requires { at + 21 ≤ length out.old }
-    ensures put { Put out.old at (answer_text answer) out.new result }
-    ensures upper_bound { result ≤ at + 21 }
+fn push_answer(line: &mut Line, answer: Answer)
+    requires { array_string_len line.old + 21 ≤ line_max }
+    ensures pushed { line.new.bytes ≡ line.old.bytes ++ answer_text answer }
+    ensures upper_bound { array_string_len line.new ≤ array_string_len line.old + 21 }
 {
     match answer {
-        Answer::Done => put_field(out, at, b" done ", 0),
-        Answer::Outbid(ballot) => put_field(out, at, b" outbid ", ballot),
-        Answer::Chosen(command) => put_field(out, at, b" chosen ", command),
-        Answer::Committed(command) => put_field(out, at, b" committed ", command),
-        Answer::Refused(number) => put_field(out, at, b" refused ", number),
+        Answer::Done => push_field(line, " done ", 0),
+        Answer::Outbid(ballot) => push_field(line, " outbid ", ballot),
+        Answer::Chosen(command) => push_field(line, " chosen ", command),
+        Answer::Committed(command) => push_field(line, " committed ", command),
+        Answer::Refused(number) => push_field(line, " refused ", number),
     }
 }
 
 // A number after its label.
-fn put_field(out: &mut [u8], at: usize, label: &[u8], number: u32) -> usize
-    requires { at + length label.now + 10 ≤ length out.old }
-    ensures put { Put out.old at (label.now ++ digits number) out.new result }
-    ensures upper_bound { result ≤ at + length label.now + 10 }
+fn push_field(line: &mut Line, label: &str, number: u32)
+    requires { array_string_len line.old + length label.now + 10 ≤ line_max }
+    ensures pushed { line.new.bytes ≡ line.old.bytes ++ label.now ++ digits number }
+    ensures upper_bound { array_string_len line.new ≤ array_string_len line.old + length label.now + 10 }
 {
-    let labelled = put(out, at, label);
-    put_number(out, labelled, number)
+    line.push_str(label);
+    push_number(line, number);
 }
 
-// The decimal digits of a number: first those of its tenth, then the last.
-#[tactic(auto, using(crate::proofs::DigitLaws::one_length, crate::proofs::NumberLaws::one_placed))]
-fn put_number(out: &mut [u8], at: usize, number: u32) -> usize
-    requires { at + length (digits number) ≤ length out.old }
-    ensures { Put out.old at (digits number) out.new result }
+// The decimal digits of a number, of which there are ten at most.
+#[tactic(auto, using(crate::proofs::DigitLaws::digits_decimal))]
+fn push_number(line: &mut Line, number: u32)
+    requires { array_string_len line.old + 10 ≤ line_max }
+    ensures pushed { line.new.bytes ≡ line.old.bytes ++ digits number }
+    ensures upper_bound { array_string_len line.new ≤ array_string_len line.old + 10 }
 {
-    if number < 10 {
-        out[at] = b'0' + number as u8;
-        return at + 1;
-    }
-    let last = put_number(out, at, number / 10);
-    out[last] = b'0' + (number % 10) as u8;
-    last + 1
-}
-
-// The bytes of a text.
-fn put(out: &mut [u8], at: usize, text: &[u8]) -> usize
-    requires { at + length text.now ≤ length out.old }
-    ensures { Put out.old at text.now out.new result }
-{
-    let mut i = 0;
-    while i < text.len() {
-        out[at + i] = text[i];
-        i += 1;
-    }
-    at + i
+    line.push_str(Buffer::new().format(number));
 }
