@@ -1,64 +1,76 @@
--- Lines put one after the other at the start of a buffer.
-use Prim.Native.Nat.{ℕ, ◌+◌, ◌*◌, ◌-◌, ◌≤◌}
+-- Lines put one after the other behind a text.
+use Prim.Native.Nat.{ℕ, ◌+◌, ◌*◌, ◌≤◌}
 use native.Mathlib.Omega.{arith}
-use mathlib.Core.Path.{◌≡◌, ◌∙◌, sym, ap}
+use mathlib.Core.Path.{◌≡◌, refl, ◌∙◌, sym, ap}
 use mathlib.Core.List.{List, [], ◌++◌, append_assoc, append-nil}
 use lib.ListN.{length, take, drop, length-append, length-drop}
-use lib.Seq.{take_at, take_all, length-take-le}
-use Rattle.transcript.specs.Lines.{line_max, placed, Put, Printed}
-use Rattle.transcript.proofs.LineLaws.{with_room}
+use lib.Seq.{take_at, length-take-le}
+use Rattle.transcript.specs.Lines.{line_max, placed, Prints}
+use Rattle.transcript.specs.declared.Transcript.{Transcript}
+use Rattle.transcript.proofs.LineLaws.{Put, with_room}
 use Rattle.rehearsal.specs.Rehearsal.{line_of, server_lines}
-use Rattle.rehearsal.specs.Buffer.{Holds, Added}
+use Rattle.rehearsal.specs.Buffer.{Holds, Adds, HasLeft}
 use Rattle.rehearsal.proofs.TextLaws.{server_more}
 
 -- a line that was printed stands behind what was there
-pub added
-    : {l m : List ℕ} {at next most : ℕ} {line : List ℕ} → Printed l at line m next → at + line_max ≤ length l → length line ≤ most
-    → Added l at line m next most
+pub adds_line
+    : (old new : Transcript) {line : List ℕ} {most : ℕ} → Prints old line new → HasLeft old line_max → length line ≤ most
+    → most ≤ line_max → Adds old line new most
 unfolding placed
-added {l} {m} {at} {next} {most} {line} p h k =
-    let put : Put l at line m next = with_room p h in
+adds_line old new {line} {most} p h k m =
+    let l : List ℕ = old.buffer.now in
+    let at : ℕ = old.length in
+    let put : Put l at line new.buffer.now new.length = with_room p h in
+    let rest : List ℕ = drop (at + length line) l in
     let front : length (take at l ++ line) ≡ at + length line =
     length-append (take at l) line ∙ ap (λ (n : ℕ). n + length line) (length-take-le at l (omega arith)) in
-    let rest = drop (at + length line) l in
+    let whole : length (take at l ++ line ++ rest) ≡ length l =
+    omega (arith, length-append (take at l ++ line) rest, front, length-drop (at + length line) l) in
     record {
       contents =
-          ap (λ (n : ℕ). take n m) put.place
+          ap (λ (n : ℕ). take n new.buffer.now) put.place
           ∙ ap (take (at + length line)) put.contents
           ∙ take_at (take at l ++ line) rest (at + length line) front;
       few = omega (arith, put.place);
+      size = ap length put.contents ∙ whole;
     }
 
 -- nothing added, and one text after another
-pub added_none : (l : List ℕ) (at most : ℕ) → Added l at [] l at most
-added_none l at most = record { contents = sym (append-nil (take at l)); few = omega arith }
+pub adds_none : (t : Transcript) (most : ℕ) → Adds t [] t most
+adds_none t most = record { contents = sym (append-nil (take t.length t.buffer.now)); few = omega arith; size = refl }
 
-pub Added-then
-    : {l m n : List ℕ} {at i j : ℕ} {a b : List ℕ} {x y : ℕ} → Added l at a m i x → Added m i b n j y → Added l at (a ++ b) n j (x + y)
-Added-then {l} {m} {n} {at} {i} {j} {a} {b} {x} {y} p q =
+pub adds_then
+    : {s t u : Transcript} {a b : List ℕ} {x y : ℕ} → Adds s a t x → Adds t b u y → Adds s (a ++ b) u (x + y)
+adds_then {s} {t} {u} {a} {b} {x} {y} p q =
     record {
-      contents = q.contents ∙ ap (λ (t : List ℕ). t ++ b) p.contents ∙ append_assoc (take at l) a b;
+      contents = q.contents ∙ ap (λ (l : List ℕ). l ++ b) p.contents ∙ append_assoc (take s.length s.buffer.now) a b;
       few = omega (arith, p.few, q.few);
+      size = q.size ∙ p.size;
     }
 
 pub holds : (l : List ℕ) (n : ℕ) (text : List ℕ) → n ≤ length l → take n l ≡ text → Holds l n text
 holds l n text h e = record { within = h; contents = e; whole = sym (length-take-le n l h) }
 
--- a part of a slice that goes to its end
-pub to_end : (l : List ℕ) (at : ℕ) → take (length l - at) (drop at l) ≡ drop at l
-to_end l at = take_all (length l - at) (drop at l) (omega (arith, length-drop at l))
+-- lines behind no text are the text
+pub only_lines
+    : {old new : Transcript} {lines : List ℕ} {most : ℕ} → Adds old lines new most → old.length ≡ 0 → most ≤ length old.buffer.now
+    → Holds new.buffer.now new.length lines
+only_lines {old} {new} {lines} {most} a none room =
+    holds new.buffer.now new.length lines (omega (arith, a.few, a.size))
+    (a.contents ∙ ap (λ (n : ℕ). take n old.buffer.now ++ lines) none)
 
 -- the lines of the servers, one after the other
-pub no_servers : (room l : List ℕ) (at : ℕ) → Added l at (server_lines room 0) l at (line_max * 0)
+pub no_servers : (room : List ℕ) (t : Transcript) → Adds t (server_lines room 0) t (line_max * 0)
 unfolding server_lines
-no_servers room l at = added_none l at (line_max * 0)
+no_servers room t = adds_none t (line_max * 0)
 
 pub more_servers
-    : (room : List ℕ) (p : ℕ) {l m n : List ℕ} {at i j : ℕ} → Added l at (server_lines room p) m i (line_max * p) → Added m i (line_of room p) n j line_max
-    → Added l at (server_lines room (p + 1)) n j (line_max * (p + 1))
-more_servers room p {l} {m} {n} {at} {i} {j} a b =
-    let both = Added-then a b in
+    : (room : List ℕ) (p : ℕ) {s t u : Transcript} → Adds s (server_lines room p) t (line_max * p) → Adds t (line_of room p) u line_max
+    → Adds s (server_lines room (p + 1)) u (line_max * (p + 1))
+more_servers room p {s} {t} {u} a b =
+    let both = adds_then a b in
     record {
-      contents = both.contents ∙ ap (λ (t : List ℕ). take at l ++ t) (sym (server_more room p));
+      contents = both.contents ∙ ap (λ (l : List ℕ). take s.length s.buffer.now ++ l) (sym (server_more room p));
       few = omega (arith, both.few);
+      size = both.size;
     }

@@ -1,123 +1,135 @@
 -- The loop over the records: what has been printed with what is still to be printed is the whole text.
-use Prim.Native.Nat.{ℕ, ◌+◌, ◌*◌, ◌-◌, ◌≤◌, ◌<◌}
+use Prim.Native.Nat.{ℕ, ◌+◌, ◌*◌, ◌/◌, ◌^◌, ◌≤◌, ◌<◌}
 use native.Mathlib.Omega.{arith}
 use mathlib.Core.Path.{◌≡◌, ◌∙◌, sym, ap, subst}
 use mathlib.Core.List.{List, ◌++◌, append_assoc, append-nil}
-use lib.ListN.{length, take, drop, length-drop}
-use lib.Seq.{drop-drop, drop-length}
+use lib.ListN.{length, take}
+use Rattle.std.proofs.Common.{Some, Ok, Err}
+use Rattle.std.specs.declared.result.Result.{Result}
 use Rattle.state.specs.declared.Step.{Step}
 use Rattle.state.specs.declared.Answer.{Answer}
 use Rattle.state.specs.declared.Answer.TheVariants as answer
-use Rattle.record.specs.declared.Reading.TheVariants.{Decoded, Refused}
-use Rattle.record.specs.Read.{reading_of}
-use Rattle.record.proofs.Accepted.{used_bounds}
+use Rattle.state.specs.Answers.{number_of}
 use Rattle.room.specs.Step.{answered, stepped}
-use Rattle.transcript.specs.Lines.{step_line}
-use Rattle.rehearsal.specs.Script.{Between, Unread, Script, ended, before, script}
+use Rattle.transcript.specs.Lines.{line_max, step_line, Prints}
+use Rattle.transcript.specs.declared.Transcript.{Transcript}
+use Rattle.rehearsal.specs.Script.{Between, Unread, Script, ended, before, script, NextRecord}
 use Rattle.rehearsal.specs.Rehearsal.{record_lines, room_after}
-use Rattle.rehearsal.specs.Buffer.{step_max, Taken, Added}
-use Rattle.rehearsal.proofs.ScriptLaws.{script_none, script_more, script_stop}
-use Rattle.rehearsal.proofs.TextLaws.{lines_none, lines_stop, lines_more, room_none, room_more}
-use Rattle.rehearsal.proofs.BufferLaws.{to_end}
+use Rattle.rehearsal.specs.Buffer.{record_max, step_max, Adds, HasLeft}
+use Rattle.rehearsal.proofs.TextLaws.{step_short, lines_none, lines_stop, lines_more, room_none, room_more}
+use Rattle.rehearsal.proofs.BufferLaws.{adds_line}
 
-pub record Going (input first room out : List ℕ) (at index place : ℕ) : Type 0 where
-  pub text : take place out ++ record_lines index room (script (drop at input)) ≡ record_lines 0 first (script (drop 3 input))
-  pub cells : room_after room (script (drop at input)) ≡ room_after first (script (drop 3 input))
-  pub far : 3 + 2 * index ≤ at
-  pub within : at ≤ length input
-  pub few : place ≤ step_max * index
+-- the most records that bytes hold
+abbrev pub most_of : List ℕ → ℕ
+most_of bytes = (length bytes + 1) / 2
 
-module _ (input : List ℕ) (at : ℕ) (more : at < length input) where
-  -- some bytes are left
-  left : 0 < length (drop at input)
-  left = omega (arith, length-drop at input)
+-- where the run stands: before some of the records, in a room, behind a text and before an index
+pub record Going (records first : List ℕ) (start : Transcript) (rest room : List ℕ) (text : Transcript) (index : ℕ) : Type 0 where
+  pub lines : take text.length text.buffer.now ++ record_lines index room (script rest) ≡ take start.length start.buffer.now ++ record_lines 0 first (script records)
+  pub cells : room_after room (script rest) ≡ room_after first (script records)
+  pub far : index + most_of rest ≤ most_of records
+  pub few : text.length ≤ start.length + step_max * index
+  pub size : length text.buffer.now ≡ length start.buffer.now
 
-  -- a record that was read takes some of the bytes that are left, and no more
-  pub record Onward (used : ℕ) : Type 0 where
-    pub some : 2 ≤ used
-    pub inside : at + used ≤ length input
+module _
+    {records first : List ℕ} {start : Transcript} {rest room : List ℕ} {text : Transcript} {index : ℕ}
+    (g : Going records first start rest room text index) where
+  -- the line of a record: the index has five digits at most, and the buffer has room
+  line
+      : (text' : Transcript) (a : Answer) {i : ℕ} → i ≡ index → length records ≤ 2 * record_max
+      → HasLeft start (step_max * record_max + line_max) → number_of a < 2 ^ 32 → Prints text (step_line i a) text'
+      → Adds text (step_line index a) text' step_max
+  line text' a {i} at short room fits p =
+      let few : index ≤ record_max = omega (arith, g.far) in
+      let P : ℕ → Type 0 = λ n. Prints text (step_line n a) text' in
+      adds_line text text' (subst P at p) (omega (arith, few, g.few, g.size)) (step_short index a few fits) (omega arith)
 
-  pub onward : {st : Step} {used : ℕ} → reading_of (take (length input - at) (drop at input)) ≡ Decoded st used → Onward used
-  onward {st} {used} e =
-      let u = used_bounds (drop at input) (ap reading_of (sym (to_end input at)) ∙ e) in
-      record { some = u.least; inside = omega (arith, length-drop at input, u.within) }
+  -- a record that was read: its line is printed, and the rest is what stands behind it
+  goes_on
+      : (st : Step) {rest' : List ℕ} {text' : Transcript} → script rest ≡ before st (script rest') → most_of rest' < most_of rest
+      → Adds text (step_line index (answered room st)) text' step_max
+      → Going records first start rest' (stepped room st) text' (index + 1)
+  goes_on st {rest'} {text'} here less a =
+      let front = take text.length text.buffer.now in
+      let line = step_line index (answered room st) in
+      let tail = record_lines (index + 1) (stepped room st) (script rest') in
+      record {
+        lines =
+            ap (λ (l : List ℕ). l ++ tail) a.contents
+            ∙ append_assoc front line tail
+            ∙ ap (λ (l : List ℕ). front ++ l) (sym (lines_more index room st (script rest')))
+            ∙ ap (λ (s : Script). front ++ record_lines index room s) (sym here)
+            ∙ g.lines;
+        cells = sym (room_more room st (script rest')) ∙ ap (room_after room) (sym here) ∙ g.cells;
+        far = omega (arith, g.far, less);
+        few = omega (arith, g.few, a.few);
+        size = a.size ∙ g.size;
+      }
 
-  module _ {first room out : List ℕ} {index place : ℕ} (g : Going input first room out at index place) where
-    goes_on
-        : {st : Step} {used : ℕ} {out' : List ℕ} {next : ℕ} → reading_of (take (length input - at) (drop at input)) ≡ Decoded st used
-        → Added out place (step_line index (answered room st)) out' next step_max
-        → Going input first (stepped room st) out' (at + used) (index + 1) next
-    goes_on {st} {used} {out'} {next} e a =
-        let on = onward e in
-        let line = step_line index (answered room st) in
-        let rest = script (drop used (drop at input)) in
-        let here : script (drop at input) ≡ before st rest =
-        script_more (drop at input) left (ap reading_of (sym (to_end input at)) ∙ e) in
-        let there : script (drop (at + used) input) ≡ rest = ap script (sym (drop-drop used at input)) in
-        let tail = record_lines (index + 1) (stepped room st) rest in
-        record {
-          text =
-              ap (λ (s : Script). take next out' ++ record_lines (index + 1) (stepped room st) s) there
-              ∙ ap (λ (l : List ℕ). l ++ tail) a.contents
-              ∙ append_assoc (take place out) line tail
-              ∙ ap (λ (l : List ℕ). take place out ++ l) (sym (lines_more index room st rest))
-              ∙ ap (λ (s : Script). take place out ++ record_lines index room s) (sym here)
-              ∙ g.text;
-          cells =
-              ap (room_after (stepped room st)) there
-              ∙ sym (room_more room st rest)
-              ∙ ap (room_after room) (sym here)
-              ∙ g.cells;
-          far = omega (arith, g.far, on.some);
-          within = on.inside;
-          few = omega (arith, g.few, a.few);
-        }
+  -- a record that can't be read has a line, and is the last
+  stops
+      : (n : ℕ) {rest' : List ℕ} {text' : Transcript} → script rest ≡ ended (Unread n) → script rest' ≡ ended Between
+      → most_of rest' < most_of rest → Adds text (step_line index (answer.Refused n)) text' step_max
+      → Going records first start rest' room text' (index + 1)
+  stops n {rest'} {text'} here last less a =
+      let front = take text.length text.buffer.now in
+      let line = step_line index (answer.Refused n) in
+      record {
+        lines =
+            ap (λ (s : Script). take text'.length text'.buffer.now ++ record_lines (index + 1) room s) last
+            ∙ ap (λ (l : List ℕ). take text'.length text'.buffer.now ++ l) (lines_none (index + 1) room)
+            ∙ append-nil (take text'.length text'.buffer.now)
+            ∙ a.contents
+            ∙ ap (λ (l : List ℕ). front ++ l) (sym (lines_stop index room n))
+            ∙ ap (λ (s : Script). front ++ record_lines index room s) (sym here)
+            ∙ g.lines;
+        cells =
+            ap (room_after room) last
+            ∙ room_none room Between
+            ∙ sym (room_none room (Unread n))
+            ∙ ap (room_after room) (sym here)
+            ∙ g.cells;
+        far = omega (arith, g.far, less);
+        few = omega (arith, g.few, a.few);
+        size = a.size ∙ g.size;
+      }
 
-    -- the same in the code's own terms: what step answered and left
-    pub takes_step
-        : {st : Step} {used : ℕ} {a : Answer} {room' out' : List ℕ} {next : ℕ} → (a ≡ answered room st) × (room' ≡ stepped room st)
-        → reading_of (take (length input - at) (drop at input)) ≡ Decoded st used → Added out place (step_line index a) out' next step_max
-        → Going input first room' out' (at + used) (index + 1) next
-    takes_step {st} {used} {a} {room'} {out'} {next} s e x =
-        subst (λ (r : List ℕ). Going input first r out' (at + used) (index + 1) next) (sym s.1)
-        (goes_on e (subst (λ (b : Answer). Added out place (step_line index b) out' next step_max) s.0 x))
+  -- the same in the code's own terms: what the iterator gave, and what was printed for it
+  module _
+      {rest' room' : List ℕ} {text' : Transcript} {r : Result Step ℕ} {a : Answer} {i j : ℕ} (short : length records ≤ 2 * record_max)
+      (wide : HasLeft start (step_max * record_max + line_max)) (less : most_of rest' < most_of rest)
+      (next : NextRecord rest (Some r) rest') (at : i ≡ index) (on : j ≡ index + 1) (fits : number_of a < 2 ^ 32)
+      (p : Prints text (step_line i a) text') where
+    pub took : {st : Step} → r ≡ Ok st → (a ≡ answered room st) × (room' ≡ stepped room st) → Going records first start rest' room' text' j
+    took {st} e s =
+        let N : Result Step ℕ → Type 0 = λ q. NextRecord rest (Some q) rest' in
+        let L : Answer → Type 0 = λ b. Adds text (step_line index b) text' step_max in
+        let G : List ℕ → ℕ → Type 0 = λ c n. Going records first start rest' c text' n in
+        subst (λ n. G room' n) (sym on) (subst (λ c. G c (index + 1)) (sym s.1) (goes_on st (subst N e next) less (subst L s.0 (line text' a at short wide fits p))))
 
-    pub stops
-        : {n : ℕ} {out' : List ℕ} {next : ℕ} → length input ≤ 65536 → reading_of (take (length input - at) (drop at input)) ≡ Refused n
-        → Added out place (step_line index (answer.Refused n)) out' next step_max
-        → Taken input first room out' next
-    stops {n} {out'} {next} short e a =
-        let here : script (drop at input) ≡ ended (Unread n) =
-        script_stop (drop at input) left (ap reading_of (sym (to_end input at)) ∙ e) in
+    pub told : {n : ℕ} → r ≡ Err n → a ≡ answer.Refused n → room' ≡ room → Going records first start rest' room' text' j
+    told {n} e s same =
+        let N : Result Step ℕ → Type 0 = λ q. NextRecord rest (Some q) rest' in
+        let L : Answer → Type 0 = λ b. Adds text (step_line index b) text' step_max in
+        let G : List ℕ → ℕ → Type 0 = λ c n. Going records first start rest' c text' n in
+        let stop = subst N e next in
+        subst (λ n. G room' n) (sym on) (subst (λ c. G c (index + 1)) (sym same) (stops n stop.0 stop.1 less (subst L s (line text' a at short wide fits p))))
+
+  -- no record is left
+  module _ (here : script rest ≡ ended Between) where
+    pub all_lines
+        : length records ≤ 2 * record_max → Adds start (record_lines 0 first (script records)) text (step_max * record_max)
+    all_lines short =
+        let front = take text.length text.buffer.now in
         record {
           contents =
-              a.contents
-              ∙ ap (λ (l : List ℕ). take place out ++ l) (sym (lines_stop index room n))
-              ∙ ap (λ (s : Script). take place out ++ record_lines index room s) (sym here)
-              ∙ g.text;
-          room =
-              sym (room_none room (Unread n))
-              ∙ ap (room_after room) (sym here)
-              ∙ g.cells;
-          few = omega (arith, g.far, g.few, a.few);
+              sym (append-nil front)
+              ∙ ap (λ (l : List ℕ). front ++ l) (sym (lines_none index room))
+              ∙ ap (λ (s : Script). front ++ record_lines index room s) (sym here)
+              ∙ g.lines;
+          few = omega (arith, g.far, g.few);
+          size = g.size;
         }
 
-pub ends
-    : {input first room out : List ℕ} {at index place : ℕ} → Going input first room out at index place → length input ≤ at
-    → length input ≤ 65536 → Taken input first room out place
-ends {input} {first} {room} {out} {at} {index} {place} g last short =
-    let all : at ≡ length input = omega (arith, g.within) in
-    let here : script (drop at input) ≡ ended Between =
-    ap (λ (i : ℕ). script (drop i input)) all ∙ ap script (drop-length input) ∙ script_none in
-    record {
-      contents =
-          sym (append-nil (take place out))
-          ∙ ap (λ (l : List ℕ). take place out ++ l) (sym (lines_none index room))
-          ∙ ap (λ (s : Script). take place out ++ record_lines index room s) (sym here)
-          ∙ g.text;
-      room =
-          sym (room_none room Between)
-          ∙ ap (room_after room) (sym here)
-          ∙ g.cells;
-      few = omega (arith, g.far, g.few);
-    }
+    pub last_room : room ≡ room_after first (script records)
+    last_room = sym (room_none room Between) ∙ ap (room_after room) (sym here) ∙ g.cells

@@ -1,12 +1,11 @@
 -- What an answer of open says where the row is as long as the sizes ask.
-use Prim.Native.Nat.{ℕ, ◌+◌, ◌*◌, ◌≤◌, ◌<◌}
+use Prim.Native.Nat.{ℕ, ◌+◌, ◌*◌, ◌^◌, ◌≤◌, ◌<◌}
 use native.Mathlib.Omega.{arith}
-use mathlib.Core.Path.{◌≡◌, refl, ◌∙◌, sym, ap}
+use mathlib.Core.Path.{◌≡◌, ◌∙◌, sym, ap, ap₂, subst}
 use mathlib.Core.Bool.{Bool, true, false, cond}
 use mathlib.Core.List.{List, ◌++◌}
-use lib.ListN.{length, take, drop}
-use lib.Seq.{take_at}
-use borrow.Author.Tests.{eq-eqb, le-leb, lt-ltb, le-ltb}
+use lib.ListN.{length, get_or, drop}
+use borrow.Author.Tests.{eq-eqb, lt-ltb, le-ltb}
 use Rattle.lemmas.proofs.Tests.{by_test}
 use Rattle.state.specs.declared.Sizes.{Sizes}
 use Rattle.layout.specs.Places.{sizes_fit, room_length, length_of}
@@ -15,12 +14,20 @@ use Rattle.layout.proofs.PlaceLaws.{fit_of}
 use Rattle.room.specs.declared.opening.Opening.TheVariants.{Opened, Refused}
 use Rattle.room.specs.Open.{open_refusal, opening, opened, opened_cells}
 use Rattle.room.proofs.OpenLaws.{opens_1, opens_room, accepted}
-use Rattle.transcript.specs.Lines.{line_max, open_line, placed, has_room, Printed}
+use Rattle.transcript.specs.Lines.{line_max, open_line, Prints}
+use Rattle.transcript.specs.declared.Transcript.{Transcript}
 use Rattle.transcript.proofs.LineLaws.{open_max}
 use Rattle.rehearsal.specs.Script.{Script, script}
 use Rattle.rehearsal.specs.Rehearsal.{record_lines, room_after, server_lines, run_text, input_max, rehearsal}
-use Rattle.rehearsal.specs.Buffer.{Holds, text_max, Taken, Added}
-use Rattle.rehearsal.proofs.BufferLaws.{added, holds}
+use Rattle.rehearsal.specs.Buffer.{Holds, record_max, step_max, text_max, Adds}
+use Rattle.rehearsal.proofs.BufferLaws.{adds_line, only_lines}
+
+-- a line that is the whole text
+pub only_line
+    : (start text : Transcript) (n : ℕ) → n < 2 ^ 32 → start.length ≡ 0 → text_max ≤ length start.buffer.now
+    → Prints start (open_line n) text → Holds text.buffer.now text.length (open_line n)
+only_line start text n fits none room p =
+    only_lines (adds_line start text p (omega (arith, none)) (open_max n fits) (omega arith)) none (omega arith)
 
 module _ (z : Sizes) (row : List ℕ) where
   pub opened_fits : opening z row ≡ Opened → sizes_fit z ≡ true
@@ -38,49 +45,34 @@ module _ (z : Sizes) (row : List ℕ) where
 
   -- the text of a room that was opened, and of one that was not
   pub opened_text
-      : {cells after input l m : List ℕ} {i j : ℕ} → opening z row ≡ Opened → cells ≡ opened z row
-      → length m ≡ text_max → Taken input cells after l i → Added l i (server_lines after z.servers) m j (line_max * z.servers)
-      → Holds m j (run_text z (script (drop 3 input)))
+      : {cells after : List ℕ} {start text : Transcript} (s : Script) → opening z row ≡ Opened → cells ≡ opened z row
+      → after ≡ room_after cells s → start.length ≡ 0 → text_max ≤ length start.buffer.now
+      → Adds start (record_lines 0 cells s ++ server_lines after z.servers) text (step_max * record_max + line_max * z.servers)
+      → Holds text.buffer.now text.length (run_text z s)
   unfolding run_text
-  opened_text {cells} {after} {input} {l} {m} {i} {j} e same size t a =
-      let s = script (drop 3 input) in
+  opened_text {cells} {after} {start} {text} s e same then none room a =
       let fits = opened_fits e in
-      let is : cells ≡ opened_cells z = same ∙ (accepted z row (ap open_refusal e)).room in
       let few = (fit_of z fits).servers in
-      let lines = t.contents ∙ ap (λ (room : List ℕ). record_lines 0 room s) is in
-      let room = t.room ∙ ap (λ (r : List ℕ). room_after r s) is in
+      let is : cells ≡ opened_cells z = same ∙ (accepted z row (ap open_refusal e)).room in
       let whole = record_lines 0 (opened_cells z) s ++ server_lines (room_after (opened_cells z) s) z.servers in
-      holds m j _ (omega (arith, t.few, a.few))
-      (a.contents
-      ∙ ap (λ (x : List ℕ). x ++ server_lines after z.servers) lines
-      ∙ ap (λ (r : List ℕ). record_lines 0 (opened_cells z) s ++ server_lines r z.servers) room
-      ∙ sym (ap (λ (b : Bool). cond b whole (open_line 1)) fits))
+      let text_is : record_lines 0 cells s ++ server_lines after z.servers ≡ run_text z s =
+      ap (λ (r : List ℕ). record_lines 0 cells s ++ server_lines r z.servers) then
+      ∙ ap (λ (r : List ℕ). record_lines 0 r s ++ server_lines (room_after r s) z.servers) is
+      ∙ sym (ap (λ (b : Bool). cond b whole (open_line 1)) fits) in
+      subst (Holds text.buffer.now text.length) text_is (only_lines a none (omega (arith, few)))
 
   pub refused_text
-      : {l m : List ℕ} {n j : ℕ} (s : Script) → length row ≡ length_of z → opening z row ≡ Refused n → length l ≡ text_max
-      → length m ≡ text_max → Printed l 0 (open_line n) m j → Holds m j (run_text z s)
+      : (start text : Transcript) {n : ℕ} (s : Script) → length row ≡ length_of z → opening z row ≡ Refused n
+      → start.length ≡ 0 → text_max ≤ length start.buffer.now → Prints start (open_line n) text
+      → Holds text.buffer.now text.length (run_text z s)
   unfolding run_text
-  refused_text {l} {m} {n} {j} s exact e size kept p =
+  refused_text start text {n} s exact e none room p =
       let is = refused_is exact e in
-      let one = is.1 in
-      let a = added p (omega arith) (open_max n (omega arith)) in
+      let one : 1 ≡ n = is.1 in
       let whole = record_lines 0 (opened_cells z) s ++ server_lines (room_after (opened_cells z) s) z.servers in
-      holds m j _ (omega (arith, a.few))
-      (a.contents
-      ∙ ap open_line (sym one)
-      ∙ sym (ap (λ (b : Bool). cond b whole (open_line 1)) is.0))
-
--- a line that is the whole text: there is room for it, and it stands at the start of the buffer
-pub has_place : (size at : ℕ) → at + line_max ≤ size → has_room size at ≡ true
-unfolding has_room
-has_place size at h = le-leb (at + line_max) size h
-
-pub only_line
-    : (l : List ℕ) (n : ℕ)
-    → (placed l 0 (open_line n) ≡ open_line n ++ drop (0 + length (open_line n)) l)
-    × (take (length (open_line n)) (placed l 0 (open_line n)) ≡ open_line n)
-unfolding placed
-only_line l n = (refl, take_at (open_line n) (drop (0 + length (open_line n)) l) (length (open_line n)) refl)
+      let text_is : open_line n ≡ run_text z s =
+      ap open_line (sym one) ∙ sym (ap (λ (b : Bool). cond b whole (open_line 1)) is.0) in
+      subst (Holds text.buffer.now text.length) text_is (only_line start text n (omega arith) none room p)
 
 -- the text of an input that is too short, too long, or neither
 module _ (input : List ℕ) where
@@ -96,3 +88,11 @@ module _ (input : List ℕ) where
       : 3 ≤ length input → length input ≤ input_max → rehearsal input ≡ run_text (sizes_of input) (script (drop 3 input))
   unfolding rehearsal
   just_right h k = simp (le-ltb (length input) 3 h, le-ltb input_max (length input) k)
+
+  -- the same of the parts that the code takes an input apart into
+  pub taken_apart
+      : (z : Sizes) {records : List ℕ} → z.servers ≡ get_or input 0 0 → z.drives ≡ get_or input 1 0 → z.slots ≡ get_or input 2 0
+      → records ≡ drop 3 input → 3 ≤ length input → length input ≤ input_max → run_text z (script records) ≡ rehearsal input
+  taken_apart z a b d r h k =
+      let z_is : z ≡ sizes_of input = λ i. record { servers = a i; drives = b i; slots = d i } in
+      ap₂ (λ (y : Sizes) (l : List ℕ). run_text y (script l)) z_is r ∙ sym (just_right h k)

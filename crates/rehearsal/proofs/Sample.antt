@@ -4,6 +4,7 @@ use native.Mathlib.Omega.{arith}
 use mathlib.Core.List.{List, [], ◌∷◌}
 use mathlib.Core.Path.{◌≡◌, refl}
 use lib.ListN.{length}
+use lib.Chars.{codes}
 use lib.Count.{ones_in, ones}
 use Rattle.command.specs.Command.{limit_of, hoard_fits, is_command}
 use Rattle.ballot.specs.Ballot.{owned, least_above, next_own}
@@ -28,7 +29,7 @@ use Rattle.catalogue.specs.Entry.{applies, entry}
 use Rattle.catalogue.specs.Fold.{cells_after, skipped_by, folded}
 use Rattle.catalogue.specs.Outputs.{output_at, leading, outputs_of}
 use Rattle.catalogue.specs.Call.{entries_of, catalogue_checks, catalogue_of}
-use Rattle.transcript.specs.Text.{bytes, digits_in, digits}
+use Rattle.transcript.specs.Text.{digits_in, digits}
 use Rattle.transcript.specs.Lines.{step_line, server_line, open_line}
 use Rattle.rehearsal.specs.Script.{ended, before, read_on, script_in, script}
 use Rattle.rehearsal.specs.Rehearsal.{step_lines, end_line, record_lines, room_after, counts_line, line_of, server_lines, run_text, input_max, rehearsal}
@@ -37,7 +38,7 @@ use Rattle.rehearsal.proofs.OpenedLaws.{too_long}
 pub sample
     : rehearsal
     (1 ∷ 1 ∷ 1 ∷ 16 ∷ 1 ∷ 9 ∷ 5 ∷ 1 ∷ 0 ∷ 16 ∷ 3 ∷ 1 ∷ 0 ∷ 0 ∷ 0 ∷ 0 ∷ 2 ∷ 16 ∷ 3 ∷ 1 ∷ 0 ∷ 0 ∷ 0 ∷ 0 ∷ 5 ∷ 0 ∷ 7 ∷ 0 ∷ 5 ∷ 0 ∷ 7 ∷ [])
-    ≡ bytes "0 done 0\n1 refused 10\n2 done 0\n3 done 0\n4 done 0\n5 chosen 66825\n6 done 0\n7 committed 66825\nserver 0 taken 1 skipped 0\n"
+    ≡ codes "0 done 0\n1 refused 10\n2 done 0\n3 done 0\n4 done 0\n5 chosen 66825\n6 done 0\n7 committed 66825\nserver 0 taken 1 skipped 0\n"
 unfolding ones ones_in
     limit_of hoard_fits is_command owned least_above next_own stands marked all_below size gathered majority within
     places_fit command_fits
@@ -53,14 +54,14 @@ unfolding ones ones_in
 sample = refl
 
 -- the three refusals of an input, in their order
-pub no_byte : rehearsal [] ≡ bytes "open refused 14\n"
+pub no_byte : rehearsal [] ≡ codes "open refused 14\n"
 unfolding digits_in digits open_line rehearsal
 no_byte = refl
 
-pub too_many : (input : List ℕ) → input_max < length input → rehearsal input ≡ bytes "open refused 2\n"
+pub too_many : (input : List ℕ) → input_max < length input → rehearsal input ≡ codes "open refused 2\n"
 unfolding digits_in digits open_line
 too_many input h = too_long input (omega arith) h
 
-pub bad_sizes : rehearsal (0 ∷ 1 ∷ 1 ∷ []) ≡ bytes "open refused 1\n"
+pub bad_sizes : rehearsal (0 ∷ 1 ∷ 1 ∷ []) ≡ codes "open refused 1\n"
 unfolding sizes_fit digits_in digits open_line rehearsal run_text
 bad_sizes = refl

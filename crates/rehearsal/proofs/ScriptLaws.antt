@@ -1,15 +1,20 @@
 -- A script is made record by record.
-use Prim.Native.Nat.{ℕ, zero, suc, ◌≤◌, ◌<◌}
+use Prim.Native.Nat.{ℕ, zero, suc, ◌-◌, ◌≤◌, ◌<◌}
 use native.Mathlib.Omega.{arith}
-use mathlib.Core.Path.{◌≡◌, refl, ◌∙◌, ap}
+use mathlib.Core.Path.{◌≡◌, refl, ◌∙◌, sym, ap}
 use mathlib.Core.List.{List, [], ◌∷◌}
-use lib.ListN.{length, drop, length-drop}
+use lib.ListN.{length, take, drop, length-drop}
+use lib.Seq.{take_all}
 use Rattle.state.specs.declared.Step.{Step}
 use Rattle.record.specs.declared.Reading.{Reading}
 use Rattle.record.specs.declared.Reading.TheVariants.{Decoded, Refused}
 use Rattle.record.specs.Read.{reading_of}
 use Rattle.record.proofs.Accepted.{used_bounds}
 use Rattle.rehearsal.specs.Script.{Between, Unread, Script, ended, before, read_on, script_in, script}
+
+-- a part of a slice that goes to its end
+pub to_end : (l : List ℕ) (at : ℕ) → take (length l - at) (drop at l) ≡ drop at l
+to_end l at = take_all (length l - at) (drop at l) (omega (arith, length-drop at l))
 
 -- what is behind a record is shorter by two bytes at least
 shorter : (b : ℕ) (bs : List ℕ) {st : Step} {used : ℕ} → reading_of (b ∷ bs) ≡ Decoded st used → length (drop used (b ∷ bs)) ≤ length bs
@@ -44,6 +49,10 @@ pub script_none : script [] ≡ ended Between
 unfolding script script_in
 script_none = refl
 
+pub script_empty : (bytes : List ℕ) → length bytes ≡ 0 → script bytes ≡ ended Between
+script_empty [] h = script_none
+script_empty (b ∷ bs) h = let no : ⊥ = omega arith in absurd no
+
 pub script_more
     : (bytes : List ℕ) {st : Step} {used : ℕ} → 0 < length bytes → reading_of bytes ≡ Decoded st used
     → script bytes ≡ before st (script (drop used bytes))
@@ -53,6 +62,12 @@ script_more (b ∷ bs) {st} {used} h e =
     let s = shorter b bs e in
     ap (λ (r : Reading). read_on r (λ n. script_in (length bs) (drop n (b ∷ bs)))) e
     ∙ ap (before st) (enough (length bs) (length (drop used (b ∷ bs))) (drop used (b ∷ bs)) s (omega arith))
+
+-- the script behind a record that was read, as the code cuts it off
+pub script_behind
+    : (bytes : List ℕ) {st : Step} {used : ℕ} → 0 < length bytes → reading_of bytes ≡ Decoded st used
+    → script bytes ≡ before st (script (take (length bytes - used) (drop used bytes)))
+script_behind bytes {st} {used} h e = script_more bytes h e ∙ ap (λ (l : List ℕ). before st (script l)) (sym (to_end bytes used))
 
 pub script_stop
     : (bytes : List ℕ) {n : ℕ} → 0 < length bytes → reading_of bytes ≡ Refused n → script bytes ≡ ended (Unread n)

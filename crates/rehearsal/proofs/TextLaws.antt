@@ -12,24 +12,18 @@ use Rattle.state.specs.Answers.{number_of}
 use Rattle.room.specs.Step.{answered, stepped}
 use Rattle.history.specs.Calls.{all_steps}
 use Rattle.history.specs.Run.{ran}
-use Rattle.transcript.specs.Lines.{word_of, step_line}
+use Rattle.transcript.specs.Lines.{step_line}
 use Rattle.transcript.proofs.DigitLaws.{digits_most, digits_ten}
+use Rattle.transcript.proofs.LineLaws.{word_length}
 use Rattle.rehearsal.specs.Script.{Ending, Between, Unread, Script, ended, before}
 use Rattle.rehearsal.specs.Rehearsal.{step_lines, end_line, record_lines, room_after, line_of, server_lines}
 use Rattle.rehearsal.specs.Buffer.{record_max, step_max}
 
 -- how long a line of a record is
-word_length : (a : Answer) → length (word_of a) ≤ 9
-word_length answer.Done = omega arith
-word_length (answer.Outbid b) = omega arith
-word_length (answer.Chosen c) = omega arith
-word_length (answer.Committed c) = omega arith
-word_length (answer.Refused n) = omega arith
-
 pub step_short : (index : ℕ) (a : Answer) → index ≤ record_max → number_of a < 2 ^ 32 → length (step_line index a) ≤ step_max
 unfolding step_line
 step_short index a h k =
-    simp length-append (omega (arith, digits_most 4 index (omega arith), digits_ten (number_of a) k, word_length a))
+    simp length-append (omega (arith, digits_most 5 index (omega arith) (omega arith) (omega arith), digits_ten (number_of a) k, word_length a))
 
 -- a script with no record, with one that can't be read, and with one more record
 pub lines_none : (index : ℕ) (room : List ℕ) → record_lines index room (ended Between) ≡ []

@@ -1,8 +1,7 @@
--- What the functions leave in lent bytes and cells.
-use Rattle.std.specs.Prelude.{ℕ, ◌+◌, ◌*◌, ◌≤◌, ◌≡◌, List, ◌++◌, length, take, drop}
+-- How much the text takes of the lent bytes.
+use Rattle.std.specs.Prelude.{ℕ, ◌+◌, ◌*◌, ◌≤◌, ◌≡◌, List, ◌++◌, length, take}
 use Rattle.transcript.specs.Lines.{line_max}
-use Rattle.rehearsal.specs.Script.{script}
-use Rattle.rehearsal.specs.Rehearsal.{record_lines, room_after, input_max}
+use Rattle.transcript.specs.declared.Transcript.{Transcript}
 
 -- The first n bytes of the buffer are the text. The last part follows from the first; a part of the buffer that is lent
 -- asks for both.
@@ -10,11 +9,6 @@ pub record Holds (buffer : List ℕ) (n : ℕ) (text : List ℕ) : Type 0 where
   pub within : n ≤ length buffer
   pub contents : take n buffer ≡ text
   pub whole : n ≡ length (take n buffer)
-
--- an input with sizes that is not too long
-pub record Readable (input : List ℕ) : Type 0 where
-  pub sized : 3 ≤ length input
-  pub short : length input ≤ input_max
 
 -- the most lines of records: one for each two bytes, and one for a byte that is left
 abbrev pub record_max : ℕ
@@ -28,13 +22,12 @@ step_max = 27
 abbrev pub text_max : ℕ
 text_max = step_max * record_max + line_max * 4
 
--- the records of an input taken: their lines, and the room after the last
-pub record Taken (input before after buffer : List ℕ) (n : ℕ) : Type 0 where
-  pub contents : take n buffer ≡ record_lines 0 before (script (drop 3 input))
-  pub room : after ≡ room_after before (script (drop 3 input))
-  pub few : n ≤ step_max * record_max
+-- n bytes have room behind the text
+abbrev pub HasLeft : Transcript → ℕ → Type 0
+HasLeft t n = t.length + n ≤ length t.buffer.now
 
--- a text put behind the first n bytes, and how long it is at most
-pub record Added (buffer : List ℕ) (n : ℕ) (text after : List ℕ) (next most : ℕ) : Type 0 where
-  pub contents : take next after ≡ take n buffer ++ text
-  pub few : next ≤ n + most
+-- some lines put behind a text, and how long they are at most
+pub record Adds (old : Transcript) (lines : List ℕ) (new : Transcript) (most : ℕ) : Type 0 where
+  pub contents : take new.length new.buffer.now ≡ take old.length old.buffer.now ++ lines
+  pub few : new.length ≤ old.length + most
+  pub size : length new.buffer.now ≡ length old.buffer.now

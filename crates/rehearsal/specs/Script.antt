@@ -1,5 +1,7 @@
 -- The steps that the bytes after the sizes hold, and how they end (SPEC, "Step records").
-use Rattle.std.specs.Prelude.{ℕ, zero, suc, List, [], ◌∷◌, length, drop}
+use Rattle.std.specs.Prelude.{ℕ, zero, suc, ◌≡◌, List, [], ◌∷◌, length, drop, MatchOption, MatchResult}
+use Rattle.std.specs.declared.option.Option.{Option}
+use Rattle.std.specs.declared.result.Result.{Result}
 use Rattle.state.specs.declared.Step.{Step}
 use Rattle.record.specs.declared.Reading.{Reading}
 use Rattle.record.specs.declared.Reading.TheVariants.{Decoded, Refused}
@@ -34,3 +36,9 @@ script_in (suc k) (b ∷ bs) = read_on (reading_of (b ∷ bs)) (λ used. script_
 -- a record takes some bytes, so there are no more records than bytes
 unfoldable pub script : List ℕ → Script
 script bytes = script_in (length bytes) bytes
+
+-- what a look at the bytes gives: nothing, or a step or the refusal of a record, and the bytes that are left
+abbrev pub NextRecord : List ℕ → Option (Result Step ℕ) → List ℕ → Type 0
+NextRecord bytes r rest =
+    MatchOption r (script bytes ≡ ended Between)
+    (λ read. MatchResult read (λ st. script bytes ≡ before st (script rest)) (λ n. (script bytes ≡ ended (Unread n)) × (script rest ≡ ended Between)))

@@ -1,14 +1,12 @@
--- `steps` meets its contract. The invariant is `Going`; the measure is the number of bytes that are left, and a record
--- that was read takes at least two of them.
-use Prim.Native.Nat.{◌-◌}
-use mathlib.Core.Path.{◌≡◌}
-use lib.ListN.{length}
+-- `steps` meets its contract. The invariant is `Going`.
+use Rattle.std.proofs.Common.{◌≡◌}
+use Rattle.std.specs.Iterator.Adapters.{enumerate_source, enumerate_count}
 use Rattle.rehearsal.proofs.Going.{Going}
 use Rattle.rehearsal.proofs.steps.Given as goal
 
-abbrev pub invariant-loop-at : goal.invariant-loop-at
-invariant-loop-at l =
-    Going l.input l.initial.room l.room l.out l.at l.index l.place × (length l.room ≡ length l.initial.room) × (length l.out ≡ length l.initial.out)
-
-abbrev pub decreases-loop-at : goal.decreases-loop-at
-decreases-loop-at l = length l.input - l.at
+abbrev pub invariant-loop-index : goal.invariant-loop-index
+invariant-loop-index l =
+    (goal.iterator-loop-index).can_next l.index-iterator
+    × (goal.iterator-loop-index).is_finite l.index-iterator
+    × Going l.records l.initial.room l.initial.text (enumerate_source l.index-iterator).0.now l.room l.text (enumerate_count l.index-iterator)
+    × (l.text.buffer.ghost_name ≡ l.initial.text.buffer.ghost_name)

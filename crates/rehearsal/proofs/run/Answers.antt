@@ -1,0 +1,23 @@
+-- `run` meets its contract: open answers that the room is opened or, since the row is exact, that the sizes do not fit.
+use Rattle.std.proofs.Common.{sym, rules, arith}
+use Rattle.layout.proofs.PlaceLaws.{fit_of}
+use Rattle.rehearsal.specs.Script.{script}
+use Rattle.rehearsal.proofs.BufferLaws.{adds_then}
+use Rattle.rehearsal.proofs.OpenedLaws.{opened_fits, opened_text, refused_text}
+use Rattle.rehearsal.proofs.run.Goals as goal
+
+pub servers-requires : goal.servers-requires
+servers-requires c =
+    let few = (fit_of c.args.z (opened_fits c.args.z _ (sym c.in-Opened.ensures.0))).servers in
+    let lines = c.steps.ensures.lines in
+    omega (arith, few, lines.few, lines.size, c.requires)
+
+pub returns-in-Opened-clause-holds : goal.returns-in-Opened-clause-holds
+returns-in-Opened-clause-holds c =
+    opened_text c.args.z _ (script c.args.records.now) (sym c.in-Opened.ensures.0) c.«open».ensures.1 c.steps.ensures.room
+    (search rules) (search rules) (adds_then c.steps.ensures.lines c.servers.ensures.lines)
+
+pub returns-in-Refused-clause-holds : goal.returns-in-Refused-clause-holds
+returns-in-Refused-clause-holds c =
+    refused_text c.args.z _ c.args.text.now c.open_line.new.self (script c.args.records.now) (search rules)
+    (sym c.in-Refused.ensures.0) (search rules) (search rules) c.open_line.ensures.printed
