@@ -1,6 +1,7 @@
 // What the program rehearse prints for an input, put into lent bytes.
 #![tactic(auto)]
 
+mod input;
 mod records;
 
 ghost use Rattle.std.specs.Prelude.{◌≡◌, ◌+◌, ◌*◌, ◌≤◌, length};
@@ -11,6 +12,7 @@ ghost use Rattle.rehearsal.specs.Script.{script};
 ghost use Rattle.rehearsal.specs.Rehearsal.{record_lines, room_after, line_of, server_lines, run_text, rehearsal};
 ghost use Rattle.rehearsal.specs.Buffer.{Holds, record_max, step_max, text_max, Adds, HasLeft};
 
+pub use input::read_full;
 use records::Records;
 use register::{Answer, Opening};
 use state::Sizes;

@@ -1,6 +1,6 @@
 -- `read_full` fills the buffer from its start: what is filled lies in it, and each turn leaves less to fill.
 use Rattle.std.proofs.Common.{length, ◌-◌, ◌≤◌}
-use Rattle.rehearse.proofs.read_full.Given as goal
+use Rattle.rehearsal.proofs.input.read_full.Given as goal
 
 abbrev pub invariant-loop-done : goal.invariant-loop-done
 invariant-loop-done g l = l.done ≤ length l.buffer

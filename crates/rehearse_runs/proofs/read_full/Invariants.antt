@@ -1,9 +1,0 @@
--- `read_full` fills the buffer from its start: what is filled lies in it, and each turn leaves less to fill.
-use Rattle.std.proofs.Common.{length, ◌-◌, ◌≤◌}
-use Rattle.rehearse_runs.proofs.read_full.Given as goal
-
-abbrev pub invariant-loop-done : goal.invariant-loop-done
-invariant-loop-done g l = l.done ≤ length l.buffer
-
-abbrev pub decreases-loop-done : goal.decreases-loop-done
-decreases-loop-done g l = length l.buffer - l.done
