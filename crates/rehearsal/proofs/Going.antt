@@ -30,6 +30,7 @@ pub record Going (records first : List ℕ) (start : Transcript) (rest room : Li
   pub far : index + most_of rest ≤ most_of records
   pub few : text.length ≤ start.length + step_max * index
   pub size : length text.buffer.now ≡ length start.buffer.now
+  pub same_reference : text.buffer.ghost_name ≡ start.buffer.ghost_name
 
 module _
     {records first : List ℕ} {start : Transcript} {rest room : List ℕ} {text : Transcript} {index : ℕ}
@@ -42,7 +43,7 @@ module _
   line text' a {i} at short room fits p =
       let few : index ≤ record_max = omega (arith, g.far) in
       let P : ℕ → Type 0 = λ n. Prints text (step_line n a) text' in
-      adds_line text text' (subst P at p) (omega (arith, few, g.few, g.size)) (step_short index a few fits) (omega arith)
+      adds_line (subst P at p) (omega (arith, few, g.few, g.size)) (step_short index a few fits) (omega arith)
 
   -- a record that was read: its line is printed, and the rest is what stands behind it
   goes_on
@@ -64,6 +65,7 @@ module _
         far = omega (arith, g.far, less);
         few = omega (arith, g.few, a.few);
         size = a.size ∙ g.size;
+        same_reference = a.same_reference ∙ g.same_reference;
       }
 
   -- a record that can't be read has a line, and is the last
@@ -92,6 +94,7 @@ module _
         far = omega (arith, g.far, less);
         few = omega (arith, g.few, a.few);
         size = a.size ∙ g.size;
+        same_reference = a.same_reference ∙ g.same_reference;
       }
 
   -- the same in the code's own terms: what the iterator gave, and what was printed for it
@@ -129,6 +132,7 @@ module _
               ∙ g.lines;
           few = omega (arith, g.far, g.few);
           size = g.size;
+          same_reference = g.same_reference;
         }
 
     pub last_room : room ≡ room_after first (script records)

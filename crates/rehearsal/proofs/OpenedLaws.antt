@@ -19,15 +19,15 @@ use Rattle.transcript.specs.declared.Transcript.{Transcript}
 use Rattle.transcript.proofs.LineLaws.{open_max}
 use Rattle.rehearsal.specs.Script.{Script, script}
 use Rattle.rehearsal.specs.Rehearsal.{record_lines, room_after, server_lines, run_text, input_max, rehearsal}
-use Rattle.rehearsal.specs.Buffer.{Holds, record_max, step_max, text_max, Adds}
-use Rattle.rehearsal.proofs.BufferLaws.{adds_line, only_lines}
+use Rattle.rehearsal.specs.Buffer.{Holds, record_max, step_max, text_max, HasLeft, Adds}
+use Rattle.rehearsal.proofs.BufferLaws.{adds_line, adds_more, only_lines}
 
 -- a line that is the whole text
 pub only_line
-    : (start text : Transcript) (n : ℕ) → n < 2 ^ 32 → start.length ≡ 0 → text_max ≤ length start.buffer.now
+    : {start text : Transcript} (n : ℕ) → n < 2 ^ 32 → start.length ≡ 0 → text_max ≤ length start.buffer.now
     → Prints start (open_line n) text → Holds text.buffer.now text.length (open_line n)
-only_line start text n fits none room p =
-    only_lines (adds_line start text p (omega (arith, none)) (open_max n fits) (omega arith)) none (omega arith)
+only_line n fits none room p =
+    only_lines (adds_line p (omega (arith, none)) (open_max n fits) (omega arith)) none (omega arith)
 
 module _ (z : Sizes) (row : List ℕ) where
   pub opened_fits : opening z row ≡ Opened → sizes_fit z ≡ true
@@ -46,11 +46,11 @@ module _ (z : Sizes) (row : List ℕ) where
   -- the text of a room that was opened, and of one that was not
   pub opened_text
       : {cells after : List ℕ} {start text : Transcript} (s : Script) → opening z row ≡ Opened → cells ≡ opened z row
-      → after ≡ room_after cells s → start.length ≡ 0 → text_max ≤ length start.buffer.now
+      → after ≡ room_after cells s
       → Adds start (record_lines 0 cells s ++ server_lines after z.servers) text (step_max * record_max + line_max * z.servers)
-      → Holds text.buffer.now text.length (run_text z s)
+      → Adds start (run_text z s) text text_max
   unfolding run_text
-  opened_text {cells} {after} {start} {text} s e same then none room a =
+  opened_text {cells} {after} {start} {text} s e same then a =
       let fits = opened_fits e in
       let few = (fit_of z fits).servers in
       let is : cells ≡ opened_cells z = same ∙ (accepted z row (ap open_refusal e)).room in
@@ -59,20 +59,20 @@ module _ (z : Sizes) (row : List ℕ) where
       ap (λ (r : List ℕ). record_lines 0 cells s ++ server_lines r z.servers) then
       ∙ ap (λ (r : List ℕ). record_lines 0 r s ++ server_lines (room_after r s) z.servers) is
       ∙ sym (ap (λ (b : Bool). cond b whole (open_line 1)) fits) in
-      subst (Holds text.buffer.now text.length) text_is (only_lines a none (omega (arith, few)))
+      adds_more (omega (arith, few)) (subst (λ (l : List ℕ). Adds start l text (step_max * record_max + line_max * z.servers)) text_is a)
 
   pub refused_text
-      : (start text : Transcript) {n : ℕ} (s : Script) → length row ≡ length_of z → opening z row ≡ Refused n
-      → start.length ≡ 0 → text_max ≤ length start.buffer.now → Prints start (open_line n) text
-      → Holds text.buffer.now text.length (run_text z s)
+      : {start text : Transcript} {n : ℕ} (s : Script) → length row ≡ length_of z → opening z row ≡ Refused n
+      → HasLeft start text_max → Prints start (open_line n) text → Adds start (run_text z s) text text_max
   unfolding run_text
-  refused_text start text {n} s exact e none room p =
+  refused_text {start} {text} {n} s exact e room p =
       let is = refused_is exact e in
       let one : 1 ≡ n = is.1 in
       let whole = record_lines 0 (opened_cells z) s ++ server_lines (room_after (opened_cells z) s) z.servers in
       let text_is : open_line n ≡ run_text z s =
       ap open_line (sym one) ∙ sym (ap (λ (b : Bool). cond b whole (open_line 1)) is.0) in
-      subst (Holds text.buffer.now text.length) text_is (only_line start text n (omega arith) none room p)
+      subst (λ (l : List ℕ). Adds start l text text_max) text_is
+      (adds_more (omega arith) (adds_line p (omega arith) (open_max n (omega arith)) (omega arith)))
 
 -- the text of an input that is too short, too long, or neither
 module _ (input : List ℕ) where

@@ -26,8 +26,9 @@ text_max = step_max * record_max + line_max * 4
 abbrev pub HasLeft : Transcript → ℕ → Type 0
 HasLeft t n = t.length + n ≤ length t.buffer.now
 
--- some lines put behind a text, and how long they are at most
+-- some lines put behind a text in the same buffer, and how long they are at most
 pub record Adds (old : Transcript) (lines : List ℕ) (new : Transcript) (most : ℕ) : Type 0 where
   pub contents : take new.length new.buffer.now ≡ take old.length old.buffer.now ++ lines
   pub few : new.length ≤ old.length + most
   pub size : length new.buffer.now ≡ length old.buffer.now
+  pub same_reference : new.buffer.ghost_name ≡ old.buffer.ghost_name

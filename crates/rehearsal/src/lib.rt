@@ -5,7 +5,6 @@ mod input;
 mod records;
 
 ghost use Rattle.std.specs.Prelude.{◌≡◌, ◌+◌, ◌*◌, ◌≤◌, length};
-ghost use Rattle.state.specs.declared.Sizes.{Sizes};
 ghost use Rattle.transcript.specs.Lines.{line_max};
 ghost use Rattle.layout.specs.Places.{longest_room};
 ghost use Rattle.rehearsal.specs.Script.{script};
@@ -53,10 +52,8 @@ pub fn rehearse(input: &[u8], cells: &mut [u32; CELLS_MAX], out: &mut [u8; TEXT_
 
 // The run of a room, which is the part of cells that is exactly as long: the lines of the records and of the servers.
 fn run(z: Sizes, records: &[u8], cells: &mut [u32], text: &mut Transcript)
-    requires { (length records.now ≤ 2 * record_max) × (length cells.old ≡ longest_room)
-        × (text.old.length ≡ 0) × (text_max ≤ length text.old.buffer.now) }
-    ensures holds { Holds text.new.buffer.now text.new.length (run_text z (script records.now)) }
-    ensures same_reference { text.new.buffer.ghost_name ≡ text.old.buffer.ghost_name }
+    requires { (length records.now ≤ 2 * record_max) × (length cells.old ≡ longest_room) × HasLeft text.old text_max }
+    ensures { Adds text.old (run_text z (script records.now)) text.new text_max }
 {
     let room = &mut cells[..layout::length_of(z)];
     match register::open(room, z.servers, z.drives, z.slots) {
@@ -68,12 +65,12 @@ fn run(z: Sizes, records: &[u8], cells: &mut [u32], text: &mut Transcript)
     }
 }
 
-// Takes the steps of the records, a line for each, until the input ends or a record can't be read.
+// Takes the steps of the records, a line for each, until the input ends or a record can't be read. The room and the text
+// stay two parameters, here and below: the steps write both, and the servers' lines only look at the room.
 fn steps(records: &[u8], room: &mut [u32], text: &mut Transcript)
     requires { (length records.now ≤ 2 * record_max) × HasLeft text.old (step_max * record_max + line_max) }
     ensures lines { Adds text.old (record_lines 0 room.old (script records.now)) text.new (step_max * record_max) }
     ensures room { room.new ≡ room_after room.old (script records.now) }
-    ensures same_reference { text.new.buffer.ghost_name ≡ text.old.buffer.ghost_name }
 {
     for (index, record) in Records(records).enumerate() {
         let answer = match record {
@@ -88,8 +85,7 @@ fn steps(records: &[u8], room: &mut [u32], text: &mut Transcript)
 #[tactic(auto, using(crate::proofs::BufferLaws::no_servers, crate::proofs::BufferLaws::more_servers))]
 fn servers(count: u32, room: &[u32], text: &mut Transcript)
     requires { HasLeft text.old (line_max * count) }
-    ensures lines { Adds text.old (server_lines room.now count) text.new (line_max * count) }
-    ensures same_reference { text.new.buffer.ghost_name ≡ text.old.buffer.ghost_name }
+    ensures { Adds text.old (server_lines room.now count) text.new (line_max * count) }
 {
     for p in 0..count {
         server(p, room, text);
@@ -98,8 +94,7 @@ fn servers(count: u32, room: &[u32], text: &mut Transcript)
 
 fn server(p: u32, room: &[u32], text: &mut Transcript)
     requires { HasLeft text.old line_max }
-    ensures line { Adds text.old (line_of room.now p) text.new line_max }
-    ensures same_reference { text.new.buffer.ghost_name ≡ text.old.buffer.ghost_name }
+    ensures { Adds text.old (line_of room.now p) text.new line_max }
 {
     let mut pieces = [0u32; catalogue::PIECES];
     let listing = register::catalogue(room, p, &mut pieces);

@@ -2,14 +2,14 @@
 use Prim.Native.Nat.{ℕ, ◌+◌, ◌-◌, ◌^◌, ◌≤◌, ◌<◌}
 use native.Mathlib.Omega.{arith}
 use mathlib.Core.Path.{◌≡◌, ◌∙◌, sym, ap}
-use mathlib.Core.Bool.{Bool, true, false, cond}
+use mathlib.Core.Bool.{Bool, true, cond}
 use mathlib.Core.List.{List, ◌++◌, append_assoc}
 use lib.ListN.{length, take, drop, length-append}
 use lib.Dec.{leb}
 use lib.Seq.{drop-drop}
 use borrow.Rule.Slice.PartMut.{put_mid}
-use borrow.Author.Tests.{le-leb, lt-leb, leb-true, leb-false}
-use Rattle.lemmas.proofs.Tests.{by_test, same_test}
+use borrow.Author.Tests.{le-leb, leb-true}
+use Rattle.lemmas.proofs.Tests.{same_test}
 use Rattle.state.specs.declared.Answer.{Answer}
 use Rattle.state.specs.declared.Answer.TheVariants.{Done, Outbid, Chosen, Committed, Refused}
 use Rattle.state.specs.Answers.{number_of}
@@ -24,7 +24,7 @@ room_left size at =
     (λ e. le-leb (at + line_max) size (omega (arith, leb-true line_max (size - at) e)))
     (λ e. le-leb line_max (size - at) (omega (arith, leb-true (at + line_max) size e)))
 
--- what that test says: room for the longest line, a line put into it, or, where the answer r is no, nothing done
+-- what that test says: room for the longest line
 pub room_for : (size at : ℕ) → has_room size at ≡ true → at + line_max ≤ size
 unfolding has_room
 room_for size at e = leb-true (at + line_max) size e
@@ -51,41 +51,14 @@ printed {l} {m} {line} {at} {k} room e size =
           ∙ sym (ap (λ (b : Bool). cond b (placed l at line) l) room);
     }
 
--- bytes put into a buffer that has room for them: the buffer then, and the place after them
-pub record Put (buffer : List ℕ) (at : ℕ) (text then : List ℕ) (next : ℕ) : Type 0 where
-  pub place : next ≡ at + length text
-  pub contents : then ≡ placed buffer at text
-
--- what a caller learns: with room the line stands in the buffer, without room nothing has changed
+-- what a caller learns: with room the line stands in the buffer
 pub with_room
     : {l m : List ℕ} {at next : ℕ} {line : List ℕ} → Printed l at line m next → at + line_max ≤ length l
-    → Put l at line m next
+    → (next ≡ at + length line) × (m ≡ placed l at line)
 unfolding has_room
 with_room {l} {m} {at} {next} {line} p h =
     let room : leb (at + line_max) (length l) ≡ true = le-leb (at + line_max) (length l) h in
-    record {
-      place = p.place ∙ ap (λ (b : Bool). cond b (at + length line) at) room;
-      contents = p.contents ∙ ap (λ (b : Bool). cond b (placed l at line) l) room;
-    }
-
-pub without_room
-    : {l m : List ℕ} {at next : ℕ} {line : List ℕ} → Printed l at line m next → length l < at + line_max
-    → (next ≡ at) × (m ≡ l)
-unfolding has_room
-without_room {l} {m} {at} {next} {line} p h =
-    let none : leb (at + line_max) (length l) ≡ false = lt-leb (at + line_max) (length l) h in (
-      p.place ∙ ap (λ (b : Bool). cond b (at + length line) at) none,
-      p.contents ∙ ap (λ (b : Bool). cond b (placed l at line) l) none,
-    )
-
--- in both cases the place answered is within the buffer
-pub next_within
-    : {l m : List ℕ} {at next : ℕ} {line : List ℕ} → Printed l at line m next → length line ≤ line_max → at ≤ length l
-    → next ≤ length l
-next_within {l} {m} {at} {next} {line} p short h =
-    by_test (leb (at + line_max) (length l))
-    (λ e. let room : at + line_max ≤ length l = leb-true (at + line_max) (length l) e in omega (arith, (with_room p room).place))
-    (λ e. omega (arith, (without_room p (leb-false (at + line_max) (length l) e)).0))
+    (p.place ∙ ap (λ (b : Bool). cond b (at + length line) at) room, p.contents ∙ ap (λ (b : Bool). cond b (placed l at line) l) room)
 
 -- no line is longer than line_max
 pub word_length : (a : Answer) → length (word_of a) ≤ 9

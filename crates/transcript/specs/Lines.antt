@@ -54,6 +54,7 @@ pub record Printed (buffer : List ℕ) (at : ℕ) (line then : List ℕ) (next :
   pub place : next ≡ cond (has_room (length buffer) at) (at + length line) at
   pub contents : then ≡ cond (has_room (length buffer) at) (placed buffer at line) buffer
 
--- the same of a text that begins its buffer
-abbrev pub Prints : Transcript → List ℕ → Transcript → Type 0
-Prints old line new = Printed old.buffer.now old.length line new.buffer.now new.length
+-- a line printed behind a text, in the same buffer
+pub record Prints (old : Transcript) (line : List ℕ) (new : Transcript) : Type 0 where
+  pub printed : Printed old.buffer.now old.length line new.buffer.now new.length
+  pub same_reference : new.buffer.ghost_name ≡ old.buffer.ghost_name

@@ -38,8 +38,7 @@ impl<'a> Transcript<'a> {
     // The line of a step: its index, the answer word, the number.
     #[tactic(auto, unfolding(crate::specs::Lines::step_line))]
     pub fn step_line(&mut self, index: u32, answer: Answer)
-        ensures printed { Prints self.old (step_line index answer) self.new }
-        ensures same_reference { self.new.buffer.ghost_name ≡ self.old.buffer.ghost_name }
+        ensures { Prints self.old (step_line index answer) self.new }
     {
         let mut line = Line::new();
         push_number(&mut line, index);
@@ -50,8 +49,7 @@ impl<'a> Transcript<'a> {
     // The line of a server: how many commands its catalogue took, and how many of them it skipped.
     #[tactic(auto, unfolding(crate::specs::Lines::server_line))]
     pub fn server_line(&mut self, server: u32, taken: u32, skipped: u32)
-        ensures printed { Prints self.old (server_line server taken skipped) self.new }
-        ensures same_reference { self.new.buffer.ghost_name ≡ self.old.buffer.ghost_name }
+        ensures { Prints self.old (server_line server taken skipped) self.new }
     {
         let mut line = Line::new();
         push_field(&mut line, "server ", server);
@@ -63,8 +61,7 @@ impl<'a> Transcript<'a> {
     // The only line of a run whose open is refused.
     #[tactic(auto, unfolding(crate::specs::Lines::open_line))]
     pub fn open_line(&mut self, number: u32)
-        ensures printed { Prints self.old (open_line number) self.new }
-        ensures same_reference { self.new.buffer.ghost_name ≡ self.old.buffer.ghost_name }
+        ensures { Prints self.old (open_line number) self.new }
     {
         let mut line = Line::new();
         push_field(&mut line, "open refused ", number);
@@ -75,8 +72,7 @@ impl<'a> Transcript<'a> {
     #[tactic(auto, using(crate::proofs::LineLaws::room_for))]
     fn put_line(&mut self, mut line: Line)
         requires { array_string_len line < line_max }
-        ensures printed { Prints self.old (line.bytes ++ codes "\n") self.new }
-        ensures same_reference { self.new.buffer.ghost_name ≡ self.old.buffer.ghost_name }
+        ensures { Prints self.old (line.bytes ++ codes "\n") self.new }
     {
         line.push_str("\n");
         if !self.has_room() {

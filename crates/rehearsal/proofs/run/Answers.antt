@@ -12,12 +12,12 @@ servers-requires c =
     let lines = c.steps.ensures.lines in
     omega (arith, few, lines.few, lines.size, c.requires)
 
-pub returns-in-Opened-clause-holds : goal.returns-in-Opened-clause-holds
-returns-in-Opened-clause-holds c =
+pub returns-in-Opened : goal.returns-in-Opened
+returns-in-Opened c =
     opened_text c.args.z _ (script c.args.records.now) (sym c.in-Opened.ensures.0) c.«open».ensures.1 c.steps.ensures.room
-    (search rules) (search rules) (adds_then c.steps.ensures.lines c.servers.ensures.lines)
+    (adds_then c.steps.ensures.lines c.servers.ensures)
 
-pub returns-in-Refused-clause-holds : goal.returns-in-Refused-clause-holds
-returns-in-Refused-clause-holds c =
-    refused_text c.args.z _ c.args.text.now c.open_line.new.self (script c.args.records.now) (search rules)
-    (sym c.in-Refused.ensures.0) (search rules) (search rules) c.open_line.ensures.printed
+pub returns-in-Refused : goal.returns-in-Refused
+returns-in-Refused c =
+    refused_text c.args.z _ (script c.args.records.now) (search rules)
+    (sym c.in-Refused.ensures.0) (search rules) c.open_line.ensures

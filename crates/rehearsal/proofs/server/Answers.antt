@@ -8,9 +8,9 @@ use Rattle.rehearsal.specs.Buffer.{Adds}
 use Rattle.rehearsal.proofs.BufferLaws.{adds_line}
 use Rattle.rehearsal.proofs.server.Goals as goal
 
-pub returns-clause-line : goal.returns-clause-line
+pub returns : goal.returns
 unfolding counts_line line_of
-returns-clause-line c =
+returns c =
     let p = c.args.p in
     let taken = c.taken.result in
     let skipped = c.skipped.result in
@@ -19,4 +19,4 @@ returns-clause-line c =
     ∙ ap (λ (n : ℕ). server_line p (taken_of c.catalogue-listing.result) n) c.skipped.ensures
     ∙ ap (counts_line p) c.catalogue-listing.ensures.0 in
     subst (λ (l : List ℕ). Adds c.args.text.now l c.server_line.new.self line_max) line
-    (adds_line _ _ c.server_line.ensures.printed (search rules) (server_max p taken skipped (search rules) (search rules) (search rules)) (omega arith))
+    (adds_line c.server_line.ensures (search rules) (server_max p taken skipped (search rules) (search rules) (search rules)) (omega arith))

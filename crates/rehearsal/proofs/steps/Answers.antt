@@ -12,10 +12,9 @@ loop-index-preserved c =
       search rules,
       search rules,
       elim c.match-record.branch [
-        | in-Ok w ↦ took g (search rules) (search rules) less s.0 s.1 s.2 (search rules) c.step_line.ensures.printed w.in-Ok.is (search rules)
-        | in-Err w ↦ told g (search rules) (search rules) less s.0 s.1 s.2 (search rules) c.step_line.ensures.printed w.in-Err.is (search rules) (search rules)
+        | in-Ok w ↦ took g (search rules) (search rules) less s.0 s.1 s.2 (search rules) c.step_line.ensures w.in-Ok.is (search rules)
+        | in-Err w ↦ told g (search rules) (search rules) less s.0 s.1 s.2 (search rules) c.step_line.ensures w.in-Err.is (search rules) (search rules)
       ],
-      search rules,
     )
 
 pub returns-clause-lines : goal.returns-clause-lines

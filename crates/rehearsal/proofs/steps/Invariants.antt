@@ -1,5 +1,4 @@
 -- `steps` meets its contract. The invariant is `Going`.
-use Rattle.std.proofs.Common.{◌≡◌}
 use Rattle.std.specs.Iterator.Adapters.{enumerate_source, enumerate_count}
 use Rattle.rehearsal.proofs.Going.{Going}
 use Rattle.rehearsal.proofs.steps.Given as goal
@@ -9,4 +8,3 @@ invariant-loop-index l =
     (goal.iterator-loop-index).can_next l.index-iterator
     × (goal.iterator-loop-index).is_finite l.index-iterator
     × Going l.records l.initial.room l.initial.text (enumerate_source l.index-iterator).0.now l.room l.text (enumerate_count l.index-iterator)
-    × (l.text.buffer.ghost_name ≡ l.initial.text.buffer.ghost_name)

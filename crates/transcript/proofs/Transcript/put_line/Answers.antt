@@ -3,6 +3,9 @@ use Rattle.std.proofs.Common.{rules, sym, ◌∙◌, ap, length}
 use Rattle.transcript.proofs.LineLaws.{printed}
 use Rattle.transcript.proofs.Transcript.put_line.Goals as goal
 
-pub returns-clause-printed : goal.returns-clause-printed
-returns-clause-printed c =
-    printed (sym c.has_room.ensures ∙ c.if-not-has_room.false) (search rules) (c.len.ensures.value ∙ ap length c.push_str.ensures.bytes)
+pub returns : goal.returns
+returns c =
+    record {
+      printed = printed (sym c.has_room.ensures ∙ c.if-not-has_room.false) (search rules) (c.len.ensures.value ∙ ap length c.push_str.ensures.bytes);
+      same_reference = search rules;
+    }
