@@ -92,6 +92,7 @@ fn servers(count: u32, room: &[u32], text: &mut Transcript)
     }
 }
 
+// The cells of the catalogue are an array, since memory is fixed.
 fn server(p: u32, room: &[u32], text: &mut Transcript)
     requires { HasLeft text.old line_max }
     ensures { Adds text.old (line_of room.now p) text.new line_max }

@@ -6,6 +6,7 @@ use std::io;
 use std::process::ExitCode;
 
 // The text is written in one piece. Where it cannot be written, a line on standard error says why, and the status is 1.
+// Memory is fixed: input, room and text are arrays, with the lengths used beside them.
 fn main(rt: HostRuntime) -> ExitCode {
     let mut stdin = rt.stdin();
     let mut input = [0u8; rehearsal::INPUT_MAX + 1];

@@ -18,6 +18,7 @@ fn main(rt: HostRuntime) -> io::Result<()> {
 }
 
 // Writes what rehearse prints for the input in a file. Where the file can't be opened, a line on standard error says why.
+// Memory is fixed, as in rehearse.
 fn run(rt: &(impl Files + Print + Eprint), name: &str) -> io::Result<()> {
     let mut file = match File::open(rt, name) {
         Ok(file) => file,

@@ -17,8 +17,8 @@ pub const LINE_MAX: usize = 54;
 // contract says that it does.
 type Line = ArrayString<LINE_MAX>;
 
-// The text so far, at the start of a lent buffer. Each line goes behind it; where the longest line would have no room,
-// nothing changes.
+// The text so far, at the start of a buffer, which is lent and no Vec, since memory is fixed. Each line goes behind it;
+// where the longest line would have no room, nothing changes.
 #[derive(Drop)]
 pub struct Transcript<'a> {
     pub buffer: &'a mut [u8],
