@@ -9,8 +9,7 @@ use Rattle.lemmas.proofs.Tests.{by_test, and_left, and_right, and_intro}
 use Rattle.state.specs.Block.{limit}
 use Rattle.ballot.specs.Ballot.{is_ballot, owned, least_above, askable, next_own}
 use Rattle.ballot.specs.Least.{LeastOwn, NoneLeft, IsNext}
-use Rattle.ballot.specs.declared.Next.{Next}
-use Rattle.ballot.specs.declared.Next.TheVariants.{Ballot, Spent}
+use Rattle.std.specs.Prelude.{Option, Some, None}
 use Rattle.ballot.proofs.Remainders.{Asked, asked, formula, none_nearer}
 
 -- what owning a ballot says
@@ -56,12 +55,12 @@ record Answered (n p f b : ℕ) : Type 0 where
   within : b ≤ limit
   value : b ≡ least_above n p f
 
-answered : (n p f b : ℕ) → next_own n p f ≡ Ballot b → Answered n p f b
+answered : (n p f b : ℕ) → next_own n p f ≡ Some b → Answered n p f b
 unfolding next_own
 answered n p f b e =
     by_test (askable n p f && leb (least_above n p f) limit)
     (λ t.
-    let v : Ballot (least_above n p f) ≡ Ballot b = sym (simp t) ∙ e in
+    let v : Some (least_above n p f) ≡ Some b = sym (simp t) ∙ e in
     let w : least_above n p f ≡ b = cc in
     record {
       may = asked n p f (and_left (askable n p f) (leb (least_above n p f) limit) t);
@@ -69,12 +68,12 @@ answered n p f b e =
       value = sym w;
     })
     (λ t.
-    let v : Spent ≡ Ballot b = sym (simp t) ∙ e in
+    let v : None ≡ Some b = sym (simp t) ∙ e in
     let w : ◌≡◌ {A = ℕ} 0 1 = cc in
     absurd (omega arith))
 
 -- a ballot that is answered is the least own one above
-pub ballot_answered : (n p f b : ℕ) → next_own n p f ≡ Ballot b → LeastOwn n p f b
+pub ballot_answered : (n p f b : ℕ) → next_own n p f ≡ Some b → LeastOwn n p f b
 ballot_answered n p f b e =
     let i = answered n p f b e in
     let server = i.may.server in
@@ -89,14 +88,14 @@ ballot_answered n p f b e =
       none_between = λ a o h k. omega (arith, none_nearer n p f a server few h (owned_says n p a o).owner, v);
     }
 
-pub next_owned : (n p f b : ℕ) → next_own n p f ≡ Ballot b → owned n p b ≡ true
+pub next_owned : (n p f b : ℕ) → next_own n p f ≡ Some b → owned n p b ≡ true
 next_owned n p f b e = (ballot_answered n p f b e).own
 
-pub next_above : (n p f b : ℕ) → next_own n p f ≡ Ballot b → f < b
+pub next_above : (n p f b : ℕ) → next_own n p f ≡ Some b → f < b
 next_above n p f b e = (ballot_answered n p f b e).above
 
 -- where none is answered, no own ballot is above
-pub none_answered : (n p f : ℕ) → n ≤ 4 → next_own n p f ≡ Spent → NoneLeft n p f
+pub none_answered : (n p f : ℕ) → n ≤ 4 → next_own n p f ≡ None → NoneLeft n p f
 unfolding next_own
 none_answered n p f few e a o h =
     let own = owned_says n p a o in
@@ -107,13 +106,13 @@ none_answered n p f few e a o h =
     (and_intro (ltb p n) (leb n 4) (lt-ltb p n own.server) (le-leb n 4 few))
     (le-leb f limit (omega (arith, own.within))))
     (le-leb (least_above n p f) limit small) in
-    let v : Ballot (least_above n p f) ≡ Spent = sym (simp t) ∙ e in
+    let v : Some (least_above n p f) ≡ None = sym (simp t) ∙ e in
     let w : ◌≡◌ {A = ℕ} 0 1 = cc in
     omega arith
 
-either : (n p f : ℕ) → n ≤ 4 → (next : Next) → next_own n p f ≡ next → IsNext n p f next
-either n p f few (Ballot b) e = ballot_answered n p f b e
-either n p f few Spent e = none_answered n p f few e
+either : (n p f : ℕ) → n ≤ 4 → (next : Option ℕ) → next_own n p f ≡ next → IsNext n p f next
+either n p f few (Some b) e = ballot_answered n p f b e
+either n p f few None e = none_answered n p f few e
 
 -- request E2, for rooms of up to four servers, every server and every number found
 pub least_own_ballot : (n p f : ℕ) → n ≤ 4 → IsNext n p f (next_own n p f)

@@ -1,8 +1,6 @@
 -- Ballots and their owners (SPEC, "The room in memory").
-use Rattle.std.specs.Prelude.{ℕ, ◌+◌, ◌-◌, ◌%◌, Bool, ◌&&◌, cond, eqb, leb, ltb}
+use Rattle.std.specs.Prelude.{ℕ, ◌+◌, ◌-◌, ◌%◌, Bool, ◌&&◌, cond, eqb, leb, ltb, Option, Some, None}
 use Rattle.state.specs.Block.{ballot_fits}
-use Rattle.ballot.specs.declared.Next.{Next}
-use Rattle.ballot.specs.declared.Next.TheVariants.{Ballot, Spent}
 
 -- a number that is a ballot at all
 abbrev pub is_ballot : ℕ → Bool
@@ -21,5 +19,5 @@ abbrev pub askable : ℕ → ℕ → ℕ → Bool
 askable n p f = ltb p n && leb n 4 && ballot_fits f
 
 -- p's least ballot above f, or none where its ballots are spent
-unfoldable pub next_own : ℕ → ℕ → ℕ → Next
-next_own n p f = cond (askable n p f && ballot_fits (least_above n p f)) (Ballot (least_above n p f)) Spent
+unfoldable pub next_own : ℕ → ℕ → ℕ → Option ℕ
+next_own n p f = cond (askable n p f && ballot_fits (least_above n p f)) (Some (least_above n p f)) None

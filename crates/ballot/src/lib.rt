@@ -6,13 +6,6 @@ ghost use Rattle.ballot.specs.Ballot.{owned, askable, least_above, next_own};
 
 use state::Block;
 
-// A server's next ballot, or none where its ballots are spent.
-#[derive(Clone, Copy)]
-pub enum Next {
-    Ballot(u32),
-    Spent,
-}
-
 // Whether b is a ballot of server p in a room of n servers.
 #[tactic(auto, unfolding(crate::specs::Ballot::owned))]
 pub fn is_own(n: u32, p: u32, b: u32) -> bool
@@ -28,18 +21,18 @@ pub fn is_own(n: u32, p: u32, b: u32) -> bool
     }
 }
 
-// The least ballot of server p above the one found, in a room of n servers, 1 to 4.
+// The least ballot of server p above the one found, in a room of n servers, 1 to 4; none where its ballots are spent.
 #[tactic(auto, unfolding(crate::specs::Ballot::next_own))]
-pub fn next_own(n: u32, p: u32, found: u32) -> Next
+pub fn next_own(n: u32, p: u32, found: u32) -> Option<u32>
     ensures { result ≡ next_own n p found }
 {
     if (p < n) & (n <= 4) & Block::ballot_fits(found) {
         let least = least_above(n, p, found);
         if Block::ballot_fits(least) {
-            return Next::Ballot(least);
+            return Some(least);
         }
     }
-    Next::Spent
+    None
 }
 
 // The least number above the one found that is p's by its remainder. Nothing is divided by n, since a small board divides

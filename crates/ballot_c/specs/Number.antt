@@ -1,8 +1,5 @@
 -- A server's next ballot as one number for C: no ballot is 0.
-use Rattle.std.specs.Prelude.{ℕ}
-use Rattle.ballot.specs.declared.Next.{Next}
-use Rattle.ballot.specs.declared.Next.TheVariants.{Ballot, Spent}
+use Rattle.std.specs.Prelude.{ℕ, Option, unwrap_or}
 
-abbrev pub ballot_or_zero : Next → ℕ
-ballot_or_zero (Ballot b) = b
-ballot_or_zero Spent = 0
+abbrev pub ballot_or_zero : Option ℕ → ℕ
+ballot_or_zero next = unwrap_or next 0

@@ -6,15 +6,12 @@ ghost use Rattle.std.specs.Prelude.{◌≡◌};
 ghost use Rattle.ballot.specs.Ballot.{next_own};
 ghost use Rattle.ballot_c.specs.Number.{ballot_or_zero};
 
-use ballot::{Next, next_own};
+use ballot::next_own;
 
 // The server's least ballot above the one found, 0 where none is left.
 #[unsafe(no_mangle)]
 pub extern "C" fn ballot_next(servers: u32, server: u32, found: u32) -> u32
     ensures { result ≡ ballot_or_zero (next_own servers server found) }
 {
-    match next_own(servers, server, found) {
-        Next::Ballot(ballot) => ballot,
-        Next::Spent => 0,
-    }
+    next_own(servers, server, found).unwrap_or(0)
 }

@@ -9,18 +9,19 @@ use lib.ListN.{length, get_or}
 use lib.Dec.{eqb, ltb}
 use borrow.Author.Tests.{eqb-true, eqb-false, ltb-true, ltb-false}
 use Rattle.lemmas.proofs.Tests.{by_test}
-use Rattle.checks.specs.Refusals.{Refusal, refusals_of, numbers_of, rises, lowest}
-use Rattle.checks.proofs.LowestLaws.{first_applies, least_applies}
+use Rattle.std.specs.Prelude.{Result, Ok, Err}
+use Rattle.checks.specs.declared.Refusal.{Refusal}
+use Rattle.checks.specs.Refusals.{Possible, refusal_number, refusal_in, refusals_of, numbers_of, rises, lowest}
+use Rattle.checks.proofs.LowestLaws.{first_applies, least_applies, refusal_leaves}
 use Rattle.state.specs.declared.Sizes.{Sizes}
 use Rattle.layout.specs.Cells.{sizes_of}
 use Rattle.range.specs.Range.{in_range}
 use Rattle.catalogue.specs.Entry.{struck}
 use Rattle.catalogue.specs.Fold.{pieces, start}
 use Rattle.catalogue.specs.Outputs.{outputs_of}
-use Rattle.catalogue.specs.Listing.{catalogue_refusal, taken_of, skipped_of}
-use Rattle.catalogue.specs.Call.{entries_of, catalogue_checks, catalogue_of, left_by, catalogue_cells}
-use Rattle.catalogue.specs.declared.Listing.{Listing}
-use Rattle.catalogue.specs.declared.Listing.TheVariants.{Counted, Refused}
+use Rattle.catalogue.specs.Listing.{counts, taken_of, skipped_of}
+use Rattle.catalogue.specs.Call.{entries_of, catalogue_checks, catalogue_of, catalogue_cells}
+use Rattle.catalogue.specs.declared.Counts.{Counts}
 use Rattle.catalogue.proofs.FoldLaws.{fold_length, fold_skips, fold_bounded, start_bounded}
 use Rattle.catalogue.proofs.OutputLaws.{outputs_first}
 use Rattle.catalogue.proofs.CallLaws.{wrong_length, out_of_range, no_server, accepts}
@@ -54,9 +55,9 @@ module _ (room : List ℕ) (server : ℕ) (out : List ℕ) where
     pub cells : catalogue_cells room server out ≡ (entries_of (sizes_of room) room server).cells
 
   -- the answer, by cases: no refusal has the number 0
-  abbrev Says : Listing → Type 0
-  Says (Counted k n) = Accepted k n
-  Says (Refused n) = 1 ≤ n
+  abbrev Says : Result Counts Refusal → Type 0
+  Says (Ok c) = Accepted c.taken c.skipped
+  Says (Err n) = 1 ≤ refusal_number n
 
   is_accepted
       : length out ≡ pieces → in_range room ≡ true → server < (sizes_of room).servers → Says (catalogue_of room server out)
@@ -87,28 +88,28 @@ module _ (room : List ℕ) (server : ℕ) (out : List ℕ) where
       (λ i. subst Says (out_of_range room server out l i).0 (omega arith)))
       (λ e. subst Says (wrong_length room server out (eqb-false (length out) pieces e)).0 (omega arith))
 
-  is_counted : (l : Listing) → Says l → catalogue_refusal l ≡ 0 → l ≡ Counted (taken_of l) (skipped_of l)
-  is_counted (Counted k n) s e = refl
-  is_counted (Refused n) s e = absurd (omega arith)
+  is_counted : (l : Result Counts Refusal) → Says l → refusal_in l ≡ 0 → l ≡ Ok (counts (taken_of l) (skipped_of l))
+  is_counted (Ok c) s e = refl
+  is_counted (Err n) s e = absurd (omega arith)
 
   -- so 0 says that the call is accepted
   pub accepted_is
-      : catalogue_refusal (catalogue_of room server out) ≡ 0
-      → catalogue_of room server out ≡ Counted (taken_of (catalogue_of room server out)) (skipped_of (catalogue_of room server out))
+      : refusal_in (catalogue_of room server out) ≡ 0
+      → catalogue_of room server out ≡ Ok (counts (taken_of (catalogue_of room server out)) (skipped_of (catalogue_of room server out)))
   accepted_is = is_counted (catalogue_of room server out) says
 
   pub accepted_says
-      : catalogue_refusal (catalogue_of room server out) ≡ 0
+      : refusal_in (catalogue_of room server out) ≡ 0
       → Accepted (taken_of (catalogue_of room server out)) (skipped_of (catalogue_of room server out))
   accepted_says e = subst Says (accepted_is e) says
 
   -- an accepted catalogue leaves as many cells as there are pieces
-  pub catalogue_length : catalogue_refusal (catalogue_of room server out) ≡ 0 → length (catalogue_cells room server out) ≡ pieces
+  pub catalogue_length : refusal_in (catalogue_of room server out) ≡ 0 → length (catalogue_cells room server out) ≡ pieces
   catalogue_length e = ap length (accepted_says e).cells ∙ entries_length (sizes_of room) room server
 
   -- and none is above struck
   pub catalogue_bounded
-      : catalogue_refusal (catalogue_of room server out) ≡ 0 → (i : ℕ) → get_or (catalogue_cells room server out) i 0 ≤ struck
+      : refusal_in (catalogue_of room server out) ≡ 0 → (i : ℕ) → get_or (catalogue_cells room server out) i 0 ≤ struck
   catalogue_bounded e i =
       subst (λ (cells : List ℕ). get_or cells i 0 ≤ struck) (sym (accepted_says e).cells) (entries_bounded (sizes_of room) room server i)
 
@@ -118,22 +119,18 @@ module _ (room : List ℕ) (server : ℕ) (out : List ℕ) where
   catalogue_numbers = refl
 
   -- the answer carries the lowest refusal that applies
-  pub catalogue_lowest : catalogue_refusal (catalogue_of room server out) ≡ lowest (refusals_of (catalogue_checks room server out))
+  pub catalogue_lowest : refusal_in (catalogue_of room server out) ≡ lowest (refusals_of (catalogue_checks room server out))
   unfolding catalogue_of catalogue_checks
-  catalogue_lowest = first_applies Refused catalogue_refusal (λ n. refl) (catalogue_checks room server out) refl
+  catalogue_lowest = first_applies (catalogue_checks room server out)
 
   -- and no lower one applies
   pub catalogue_least
-      : (r : Refusal) → Memᴰ r (refusals_of (catalogue_checks room server out)) → r.applies ≡ true
-      → catalogue_refusal (catalogue_of room server out) ≤ r.number
+      : (r : Possible) → Memᴰ r (refusals_of (catalogue_checks room server out)) → r.applies ≡ true
+      → refusal_in (catalogue_of room server out) ≤ r.number
   unfolding catalogue_of catalogue_checks numbers_of rises
-  catalogue_least = least_applies Refused catalogue_refusal (λ n. refl) (catalogue_checks room server out) refl refl
-
-  left : (l : Listing) (new : List ℕ) → (catalogue_refusal l ≡ 0 → ⊥) → left_by l new out ≡ out
-  left (Counted k n) new h = absurd (h refl)
-  left (Refused n) new h = refl
+  catalogue_least = least_applies (catalogue_checks room server out) refl
 
   -- a refusal leaves every cell as it was
-  pub catalogue_leaves : (catalogue_refusal (catalogue_of room server out) ≡ 0 → ⊥) → catalogue_cells room server out ≡ out
+  pub catalogue_leaves : (refusal_in (catalogue_of room server out) ≡ 0 → ⊥) → catalogue_cells room server out ≡ out
   unfolding catalogue_cells
-  catalogue_leaves h = left (catalogue_of room server out) _ h
+  catalogue_leaves h = refusal_leaves _ out (catalogue_of room server out) h

@@ -7,7 +7,10 @@ use mathlib.Core.List.{List}
 use lib.ListN.{length}
 use lib.Dec.{eqb, ltb}
 use borrow.Author.Tests.{eq-eqb, ne_eqb, lt-ltb, le-ltb}
-use Rattle.checks.specs.Checks.{must}
+use Rattle.std.specs.Prelude.{Result, Ok, Err}
+use Rattle.checks.specs.declared.Refusal.{Refusal}
+use Rattle.checks.specs.declared.Refusal.TheVariants.{WrongLength, OutOfRange, BeyondRoom}
+use Rattle.checks.specs.Checks.{must, left_by}
 use Rattle.checks.proofs.CheckLaws.{passes, fails}
 use Rattle.layout.specs.Places.{base}
 use Rattle.layout.specs.Cells.{sizes_of, limits_of}
@@ -15,9 +18,8 @@ use Rattle.layout.proofs.PlaceLaws.{row_head}
 use Rattle.range.specs.Range.{in_range}
 use Rattle.range.proofs.Laws.{range_says}
 use Rattle.catalogue.specs.Fold.{pieces}
-use Rattle.catalogue.specs.Call.{entries_of, counted, catalogue_checks, catalogue_of, left_by, catalogue_cells, Listable}
-use Rattle.catalogue.specs.declared.Listing.{Listing}
-use Rattle.catalogue.specs.declared.Listing.TheVariants.{Refused}
+use Rattle.catalogue.specs.Call.{entries_of, counted, catalogue_checks, catalogue_of, catalogue_cells, Listable}
+use Rattle.catalogue.specs.declared.Counts.{Counts}
 use Rattle.catalogue.proofs.OutputLaws.{output_piece}
 
 -- a room in range has the cells of its sizes, at most four servers, and outputs that can be listed
@@ -36,49 +38,49 @@ module _ (room : List ℕ) (range : in_range room ≡ true) where
 -- the answers in the order of the checks, each with the cells that it leaves
 module _ (room : List ℕ) (server : ℕ) (out : List ℕ) where
   pub leaves
-      : (r : Listing) → catalogue_of room server out ≡ r
+      : (r : Result Counts Refusal) → catalogue_of room server out ≡ r
       → (r ≡ catalogue_of room server out)
-      × (left_by r (entries_of (sizes_of room) room server).cells out ≡ catalogue_cells room server out)
+      × (left_by (λ c. (entries_of (sizes_of room) room server).cells) out r ≡ catalogue_cells room server out)
   unfolding catalogue_cells
-  leaves r e = (sym e, ap (λ (a : Listing). left_by a (entries_of (sizes_of room) room server).cells out) (sym e))
+  leaves r e = (sym e, ap (left_by (λ c. (entries_of (sizes_of room) room server).cells) out) (sym e))
 
   pub wrong_length
       : (length out ≡ pieces → ⊥)
-      → (Refused 2 ≡ catalogue_of room server out) × (out ≡ catalogue_cells room server out)
+      → (Err WrongLength ≡ catalogue_of room server out) × (out ≡ catalogue_cells room server out)
   unfolding catalogue_of catalogue_checks
-  wrong_length h = leaves (Refused 2) (fails Refused (eqb (length out) pieces) 2 _ (ne_eqb (length out) pieces h))
+  wrong_length h = leaves (Err WrongLength) (fails (eqb (length out) pieces) WrongLength _ (ne_eqb (length out) pieces h))
 
   module _ (exact : length out ≡ pieces) where
     past_length
-        : (r : Listing)
-        → must Refused (in_range room) 3 (must Refused (ltb server (sizes_of room).servers) 4 (counted (sizes_of room) room server)) ≡ r
+        : (r : Result Counts Refusal)
+        → must (in_range room) OutOfRange (must (ltb server (sizes_of room).servers) BeyondRoom (Ok (counted (sizes_of room) room server))) ≡ r
         → catalogue_of room server out ≡ r
     unfolding catalogue_of catalogue_checks
-    past_length r e = passes Refused (eqb (length out) pieces) 2 _ (eq-eqb (length out) pieces exact) ∙ e
+    past_length r e = passes (eqb (length out) pieces) WrongLength _ (eq-eqb (length out) pieces exact) ∙ e
 
     pub out_of_range
         : in_range room ≡ false
-        → (Refused 3 ≡ catalogue_of room server out) × (out ≡ catalogue_cells room server out)
-    out_of_range h = leaves (Refused 3) (past_length (Refused 3) (fails Refused (in_range room) 3 _ h))
+        → (Err OutOfRange ≡ catalogue_of room server out) × (out ≡ catalogue_cells room server out)
+    out_of_range h = leaves (Err OutOfRange) (past_length (Err OutOfRange) (fails (in_range room) OutOfRange _ h))
 
     module _ (range : in_range room ≡ true) where
       past_range
-          : (r : Listing) → must Refused (ltb server (sizes_of room).servers) 4 (counted (sizes_of room) room server) ≡ r
+          : (r : Result Counts Refusal) → must (ltb server (sizes_of room).servers) BeyondRoom (Ok (counted (sizes_of room) room server)) ≡ r
           → catalogue_of room server out ≡ r
-      past_range r e = past_length r (passes Refused (in_range room) 3 _ range ∙ e)
+      past_range r e = past_length r (passes (in_range room) OutOfRange _ range ∙ e)
 
       pub no_server
           : (sizes_of room).servers ≤ server
-          → (Refused 4 ≡ catalogue_of room server out) × (out ≡ catalogue_cells room server out)
+          → (Err BeyondRoom ≡ catalogue_of room server out) × (out ≡ catalogue_cells room server out)
       no_server h =
-          leaves (Refused 4)
-          (past_range (Refused 4) (fails Refused (ltb server (sizes_of room).servers) 4 _ (le-ltb server (sizes_of room).servers h)))
+          leaves (Err BeyondRoom)
+          (past_range (Err BeyondRoom) (fails (ltb server (sizes_of room).servers) BeyondRoom _ (le-ltb server (sizes_of room).servers h)))
 
       pub accepts
           : server < (sizes_of room).servers
-          → (counted (sizes_of room) room server ≡ catalogue_of room server out)
+          → (Ok (counted (sizes_of room) room server) ≡ catalogue_of room server out)
           × ((entries_of (sizes_of room) room server).cells ≡ catalogue_cells room server out)
       accepts h =
-          leaves (counted (sizes_of room) room server)
-          (past_range (counted (sizes_of room) room server)
-          (passes Refused (ltb server (sizes_of room).servers) 4 _ (lt-ltb server (sizes_of room).servers h)))
+          leaves (Ok (counted (sizes_of room) room server))
+          (past_range (Ok (counted (sizes_of room) room server))
+          (passes (ltb server (sizes_of room).servers) BeyondRoom _ (lt-ltb server (sizes_of room).servers h)))

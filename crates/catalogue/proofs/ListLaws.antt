@@ -9,7 +9,7 @@ use Rattle.state.specs.declared.Sizes.{Sizes}
 use Rattle.catalogue.specs.Fold.{pieces, Entries, cells_after, skipped_by, folded}
 use Rattle.catalogue.specs.Outputs.{output_at, leading, outputs_of}
 use Rattle.catalogue.specs.Call.{entries_of, counted}
-use Rattle.catalogue.specs.declared.Listing.TheVariants.{Counted}
+use Rattle.catalogue.specs.Listing.{counts}
 use Rattle.catalogue.proofs.FoldLaws.{after-length, skipped_small}
 use Rattle.catalogue.proofs.OutputLaws.{none_there, none_left, one_more}
 
@@ -59,20 +59,20 @@ module _ {z : Sizes} {room : List ℕ} {p : ℕ} {out : List ℕ} {k skipped : �
 
   left_last
       : leading (output_at z room p) k (z.slots - k) ≡ []
-      → (Counted k skipped ≡ counted z room p) × (out ≡ (entries_of z room p).cells)
+      → (counts k skipped ≡ counted z room p) × (out ≡ (entries_of z room p).cells)
   unfolding folded
   left_last l =
       let e : record { cells = out; skipped = skipped } ≡ entries_of z room p =
       sym (ap (folded (record { cells = out; skipped = skipped })) l) ∙ left.rest in
       let t : k ≡ length (outputs_of z room p) = sym (add-zero k) ∙ ap (λ (xs : List ℕ). k + length xs) (sym l) ∙ left.taken in
-      (ap₂ (λ (x y : ℕ). Counted x y) t (ap (λ (x : Entries). x.skipped) e), ap (λ (x : Entries). x.cells) e)
+      (ap₂ counts t (ap (λ (x : Entries). x.skipped) e), ap (λ (x : Entries). x.cells) e)
 
   -- every slot was looked at
   pub last_slot
-      : z.slots ≤ k → (Counted k skipped ≡ counted z room p) × (out ≡ (entries_of z room p).cells)
+      : z.slots ≤ k → (counts k skipped ≡ counted z room p) × (out ≡ (entries_of z room p).cells)
   last_slot h = left_last (none_left (output_at z room p) k z.slots h)
 
   -- the next slot is without an output
   pub last_output
-      : output_at z room p k ≡ 0 → (Counted k skipped ≡ counted z room p) × (out ≡ (entries_of z room p).cells)
+      : output_at z room p k ≡ 0 → (counts k skipped ≡ counted z room p) × (out ≡ (entries_of z room p).cells)
   last_output e = left_last (none_there (output_at z room p) k (z.slots - k) e)

@@ -5,9 +5,9 @@ ghost use Rattle.std.specs.Prelude.{◌≡◌, ◌<◌, length, replicate};
 ghost use Rattle.command.specs.Command.{piece_of};
 ghost use Rattle.catalogue.specs.Entry.{entered, applies, changed};
 ghost use Rattle.catalogue.specs.Fold.{pieces, cells_after, skipped_by};
-ghost use Rattle.catalogue.specs.Listing.{catalogue_refusal, taken_of, skipped_of};
 ghost use Rattle.catalogue.specs.Call.{Listable, entries_of, counted, catalogue_of, catalogue_cells};
 
+use checks::Refusal;
 use state::Sizes;
 
 // One cell for each piece.
@@ -24,64 +24,31 @@ const MOVE: u32 = 2;
 const STRIKE: u32 = 3;
 
 // What catalogue answers: how many commands were taken, and how many of these were skipped.
-#[derive(Clone, Copy)]
-pub enum Listing {
-    Counted { taken: u32, skipped: u32 },
-    Refused(u32),
-}
-
-impl Listing {
-    // The number of a refusal; 0 where the call was accepted.
-    pub fn refusal(self) -> u32
-        ensures { result ≡ catalogue_refusal self }
-    {
-        match self {
-            Listing::Counted {
-                taken: _,
-                skipped: _,
-            } => 0,
-            Listing::Refused(number) => number,
-        }
-    }
-
-    pub fn taken(self) -> u32
-        ensures { result ≡ taken_of self }
-    {
-        match self {
-            Listing::Counted { taken, skipped: _ } => taken,
-            Listing::Refused(_) => 0,
-        }
-    }
-
-    pub fn skipped(self) -> u32
-        ensures { result ≡ skipped_of self }
-    {
-        match self {
-            Listing::Counted { taken: _, skipped } => skipped,
-            Listing::Refused(_) => 0,
-        }
-    }
+#[derive(Clone, Copy, Default)]
+pub struct Counts {
+    pub taken: u32,
+    pub skipped: u32,
 }
 
 // Writes each piece's hoard, 0 if it has none, STRUCK if it was struck, as the outputs of one server give it. Refused with
 // 2 where out is not 64 cells, 3 where the row is no room in range, and 4 where the server is beyond the room; then no
 // cell changes.
-pub fn catalogue(room: &[u32], server: u32, out: &mut [u32]) -> Listing
+pub fn catalogue(room: &[u32], server: u32, out: &mut [u32]) -> Result<Counts, Refusal>
     ensures { (result ≡ catalogue_of room.now server out.old)
         × (out.new ≡ catalogue_cells room.now server out.old) }
 {
     if out.len() != PIECES {
-        return Listing::Refused(2);
+        return Err(Refusal::WrongLength);
     }
     if !range::in_range(room) {
-        return Listing::Refused(3);
+        return Err(Refusal::OutOfRange);
     }
     let z = layout::sizes(room);
     if z.servers <= server {
-        return Listing::Refused(4);
+        return Err(Refusal::BeyondRoom);
     }
     layout::clear(out);
-    list(room, z, server as u8, out)
+    Ok(list(room, z, server as u8, out))
 }
 
 // Whether a catalogue's cell is a hoard.
@@ -93,7 +60,7 @@ pub fn entered(cell: u32) -> bool
 
 // Takes the outputs from slot 0 up to the first slot without one.
 #[tactic(auto, using(crate::proofs::ListLaws::last_slot, crate::proofs::ListLaws::last_output, crate::proofs::FoldLaws::skipped_small), unfolding(crate::specs::Outputs::output_at))]
-fn list(room: &[u32], z: Sizes, p: u8, out: &mut [u32]) -> Listing
+fn list(room: &[u32], z: Sizes, p: u8, out: &mut [u32]) -> Counts
     requires { Listable z room.now p × (out.old ≡ replicate pieces 0) }
     ensures { (result ≡ counted z room.now p) × (out.new ≡ (entries_of z room.now p).cells) }
 {
@@ -110,7 +77,7 @@ fn list(room: &[u32], z: Sizes, p: u8, out: &mut [u32]) -> Listing
         skipped += apply(out, command);
         k += 1;
     };
-    Listing::Counted { taken, skipped }
+    Counts { taken, skipped }
 }
 
 // Applies one command to the cell of its piece; answers 1 for a command that is skipped and 0 for any other.

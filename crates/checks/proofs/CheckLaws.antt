@@ -1,21 +1,23 @@
 -- One check passed or failed, and all checks of a call taken apart.
-use Prim.Native.Nat.{ℕ}
 use mathlib.Core.Path.{◌≡◌, refl}
 use mathlib.Core.Bool.{Bool, true, false, cond}
+use Rattle.std.specs.Prelude.{Result, Ok, Err}
+use Rattle.checks.specs.declared.Refusal.{Refusal}
 use Rattle.checks.specs.Checks.{Checked, Must, Either, Gives, must, outcome}
 
-module _ {A : Type 0} (refused : ℕ → A) where
-  pub passes : (b : Bool) (n : ℕ) (rest : A) → b ≡ true → must refused b n rest ≡ rest
+module _ {A : Type 0} where
+  pub passes : (b : Bool) (n : Refusal) (rest : Result A Refusal) → b ≡ true → must b n rest ≡ rest
   unfolding must
   passes b n rest e = simp e
 
-  pub fails : (b : Bool) (n : ℕ) (rest : A) → b ≡ false → must refused b n rest ≡ refused n
+  pub fails : (b : Bool) (n : Refusal) (rest : Result A Refusal) → b ≡ false → must b n rest ≡ Err n
   unfolding must
   fails b n rest e = simp e
 
   -- what holds of the refusal, and of the rest where the condition holds, holds of both
   pub must_cases {ℓ}
-      : (P : A → Type ℓ) (b : Bool) (n : ℕ) (rest : A) → P (refused n) → (b ≡ true → P rest) → P (must refused b n rest)
+      : (P : Result A Refusal → Type ℓ) (b : Bool) (n : Refusal) (rest : Result A Refusal) → P (Err n) → (b ≡ true → P rest)
+      → P (must b n rest)
   unfolding must
   must_cases P true n rest stop way = way refl
   must_cases P false n rest stop way = stop
@@ -31,17 +33,11 @@ AllGive P (Either t x y) = AllGive P x × AllGive P y
 AllGive P (Gives a) = P a
 
 pub all_give
-    : {A : Type 0} (refused : ℕ → A) (P : A → Type 0) → ((n : ℕ) → P (refused n)) → (c : Checked A) → AllGive P c
-    → P (outcome refused c)
+    : {A : Type 0} (P : Result A Refusal → Type 0) → ((n : Refusal) → P (Err n)) → (c : Checked A)
+    → AllGive (λ a. P (Ok a)) c → P (outcome c)
 unfolding must
-all_give refused P stop (Must true n c) h = all_give refused P stop c h
-all_give refused P stop (Must false n c) h = stop n
-all_give refused P stop (Either true x y) h = all_give refused P stop x h.0
-all_give refused P stop (Either false x y) h = all_give refused P stop y h.1
-all_give refused P stop (Gives a) h = h
-
-pub All-map
-    : {A : Type 0} (P Q : A → Type 0) → ((a : A) → P a → Q a) → (c : Checked A) → AllGive P c → AllGive Q c
-All-map P Q f (Must b n c) h = All-map P Q f c h
-All-map P Q f (Either t x y) h = (All-map P Q f x h.0, All-map P Q f y h.1)
-All-map P Q f (Gives a) h = f a h
+all_give P stop (Must true n c) h = all_give P stop c h
+all_give P stop (Must false n c) h = stop n
+all_give P stop (Either true x y) h = all_give P stop x h.0
+all_give P stop (Either false x y) h = all_give P stop y h.1
+all_give P stop (Gives a) h = h

@@ -2,3 +2,5 @@
 pub mod CheckLaws
 -- the answer carries the first refusal that applies; where the numbers rise that is the lowest
 pub mod LowestLaws
+-- each refusal has its own number
+pub mod NumberLaws

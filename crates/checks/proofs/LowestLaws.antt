@@ -10,12 +10,13 @@ use native.Mathlib.Omega.{arith}
 use lib.Dec.{ltb}
 use borrow.Author.Tests.{ltb-true}
 use Rattle.lemmas.proofs.Tests.{by_test, and_left, and_right}
-use Rattle.checks.specs.Checks.{Checked, Must, Either, Gives, must, outcome}
-use Rattle.checks.specs.Refusals.{Refusal, refusals_in, refusals_of, numbers_of, rises, lowest}
-use Rattle.checks.proofs.CheckLaws.{AllGive}
+use Rattle.std.specs.Prelude.{Result, Ok, Err}
+use Rattle.checks.specs.declared.Refusal.{Refusal}
+use Rattle.checks.specs.Checks.{Checked, Must, Either, Gives, must, outcome, mapped, left_by}
+use Rattle.checks.specs.Refusals.{Possible, refusal_in, refusals_in, refusals_of, numbers_of, rises, lowest}
 
 -- the ways that are not open refuse nothing
-closed : {A : Type 0} (c : Checked A) (rest : List Refusal) → lowest (refusals_in false c rest) ≡ lowest rest
+closed : {A : Type 0} (c : Checked A) (rest : List Possible) → lowest (refusals_in false c rest) ≡ lowest rest
 unfolding lowest
 closed (Must b n c) rest = closed c rest
 closed (Either t x y) rest = closed x (refusals_in false y rest) ∙ closed y rest
@@ -27,7 +28,7 @@ pub record Above (n first m : ℕ) : Type 0 where
   pub least : first ≤ m
 
 pub lowest_first
-    : (n : ℕ) (rs : List Refusal) → rises n (numbers_of rs) ≡ true → (r : Refusal) → Memᴰ r rs → r.applies ≡ true
+    : (n : ℕ) (rs : List Possible) → rises n (numbers_of rs) ≡ true → (r : Possible) → Memᴰ r rs → r.applies ≡ true
     → Above n (lowest rs) r.number
 unfolding lowest rises numbers_of
 lowest_first n [] up r m e = absurd (Memᴰ.not-nil m)
@@ -43,8 +44,8 @@ lowest_first n (x ∷ rs) up r m e =
         → Above n (lowest (x ∷ rs)) r.number
     go (inl s) rest =
         let k = h in
-        let same : x.number ≡ r.number = ap (λ (y : Refusal). y.number) (sym s) in
-        let on : x.applies ≡ true = ap (λ (y : Refusal). y.applies) (sym s) ∙ e in
+        let same : x.number ≡ r.number = ap (λ (y : Possible). y.number) (sym s) in
+        let on : x.applies ≡ true = ap (λ (y : Possible). y.applies) (sym s) ∙ e in
         rw on (record { above = omega arith; least = omega arith })
     go (inr i) rest =
         let k = h in
@@ -53,24 +54,32 @@ lowest_first n (x ∷ rs) up r m e =
         (λ on. rw on (record { above = omega arith; least = omega arith }))
         (λ off. rw off (record { above = omega arith; least = later.least }))
 
--- refused makes the answer of a number, and number reads it off an answer: 0 where the answer is no refusal
-module _ {A : Type 0} (refused : ℕ → A) (number : A → ℕ) (reads : (n : ℕ) → number (refused n) ≡ n) where
-  first_in
-      : (c : Checked A) (rest : List Refusal) → lowest rest ≡ 0 → AllGive (λ a. number a ≡ 0) c
-      → number (outcome refused c) ≡ lowest (refusals_in true c rest)
-  unfolding lowest must
-  first_in (Must true n c) rest h s = first_in c rest h s
-  first_in (Must false n c) rest h s = reads n
-  first_in (Either true x y) rest h s = first_in x (refusals_in false y rest) (closed y rest ∙ h) s.0
-  first_in (Either false x y) rest h s = first_in y rest h s.1 ∙ sym (closed x (refusals_in true y rest))
-  first_in (Gives a) rest h s = s ∙ sym h
+first_in
+    : {A : Type 0} (c : Checked A) (rest : List Possible) → lowest rest ≡ 0
+    → refusal_in (outcome c) ≡ lowest (refusals_in true c rest)
+unfolding lowest must
+first_in (Must true n c) rest h = first_in c rest h
+first_in (Must false n c) rest h = refl
+first_in (Either true x y) rest h = first_in x (refusals_in false y rest) (closed y rest ∙ h)
+first_in (Either false x y) rest h = first_in y rest h ∙ sym (closed x (refusals_in true y rest))
+first_in (Gives a) rest h = sym h
 
-  -- the answer carries the first refusal that applies
-  pub first_applies : (c : Checked A) → AllGive (λ a. number a ≡ 0) c → number (outcome refused c) ≡ lowest (refusals_of c)
-  first_applies c s = first_in c [] (unfold lowest in refl) s
+-- the answer carries the first refusal that applies
+pub first_applies : {A : Type 0} (c : Checked A) → refusal_in (outcome c) ≡ lowest (refusals_of c)
+first_applies c = first_in c [] (unfold lowest in refl)
 
-  -- and no other that applies is lower, where the numbers rise
-  pub least_applies
-      : (c : Checked A) → AllGive (λ a. number a ≡ 0) c → rises 0 (numbers_of (refusals_of c)) ≡ true
-      → (r : Refusal) → Memᴰ r (refusals_of c) → r.applies ≡ true → number (outcome refused c) ≤ r.number
-  least_applies c s up r m e = rw (first_applies c s) (lowest_first 0 (refusals_of c) up r m e).least
+-- and no other that applies is lower, where the numbers rise
+pub least_applies
+    : {A : Type 0} (c : Checked A) → rises 0 (numbers_of (refusals_of c)) ≡ true → (r : Possible) → Memᴰ r (refusals_of c)
+    → r.applies ≡ true → refusal_in (outcome c) ≤ r.number
+least_applies c up r m e = rw (first_applies c) (lowest_first 0 (refusals_of c) up r m e).least
+
+-- an answer told in another way has the same refusal
+pub refusal_mapped : {A B : Type 0} (f : A → B) (x : Result A Refusal) → refusal_in (mapped f x) ≡ refusal_in x
+refusal_mapped f (Ok a) = refl
+refusal_mapped f (Err n) = refl
+
+-- a refusal leaves what was lent as it was
+pub refusal_leaves : {A B : Type 0} (makes : A → B) (old : B) (x : Result A Refusal) → (refusal_in x ≡ 0 → ⊥) → left_by makes old x ≡ old
+refusal_leaves makes old (Ok a) h = absurd (h refl)
+refusal_leaves makes old (Err n) h = refl

@@ -8,14 +8,15 @@ use native.Mathlib.Omega.{arith}
 use lib.Dec.{ltb, eqb}
 use borrow.Author.Tests.{lt-ltb, ltb-true, ltb-false, eqb-true, eqb-false}
 use Rattle.lemmas.proofs.Tests.{by_test, clash}
+use Rattle.std.specs.Prelude.{Result, Ok, Err}
+use Rattle.checks.specs.declared.Refusal.{Refusal}
+use Rattle.checks.specs.declared.Refusal.TheVariants.{OutOfRange, BeyondRoom, NoSlotFree}
 use Rattle.checks.specs.Checks.{must}
-use Rattle.checks.specs.Refusals.{Refusal, refusals_of, numbers_of, rises, lowest}
+use Rattle.checks.specs.Refusals.{Possible, refusal_number, refusal_in, refusals_of, numbers_of, rises, lowest}
 use Rattle.checks.proofs.LowestLaws.{first_applies, least_applies}
 use Rattle.layout.specs.Cells.{sizes_of}
 use Rattle.range.specs.Range.{in_range}
-use Rattle.free_slots.specs.declared.asking.Asking.{Asking}
-use Rattle.free_slots.specs.declared.asking.Asking.TheVariants.{Free, Refused}
-use Rattle.free_slots.specs.Ask.{free_at, first_from, lowest_free, ask_checks, asked, ask_refusal, slot_named}
+use Rattle.free_slots.specs.Ask.{free_at, first_from, lowest_free, ask_checks, asked, slot_named}
 use Rattle.free_slots.specs.AskThenPut.{Names, NoneFree}
 
 -- r is the first of the n numbers from s on at which f holds, or the one after them
@@ -69,31 +70,31 @@ module _ (cells : List ℕ) (p : ℕ) where
   unfolding lowest_free
   is_first = first free 0 (sizes_of cells).slots
 
-  pub asked_3 : in_range cells ≡ false → asked cells p ≡ Refused 3
+  pub asked_3 : in_range cells ≡ false → asked cells p ≡ Err OutOfRange
   unfolding asked ask_checks must
   asked_3 a = simp a
 
-  pub asked_4 : in_range cells ≡ true → ltb p (sizes_of cells).servers ≡ false → asked cells p ≡ Refused 4
+  pub asked_4 : in_range cells ≡ true → ltb p (sizes_of cells).servers ≡ false → asked cells p ≡ Err BeyondRoom
   unfolding asked ask_checks must
   asked_4 a b = simp (a, b)
 
   pub asked_17
       : in_range cells ≡ true → ltb p (sizes_of cells).servers ≡ true
-      → ltb (lowest_free (sizes_of cells) cells p) (sizes_of cells).slots ≡ false → asked cells p ≡ Refused 17
+      → ltb (lowest_free (sizes_of cells) cells p) (sizes_of cells).slots ≡ false → asked cells p ≡ Err NoSlotFree
   unfolding asked ask_checks must
   asked_17 a b c = simp (a, b, c)
 
   pub asked_slot
       : in_range cells ≡ true → ltb p (sizes_of cells).servers ≡ true
       → ltb (lowest_free (sizes_of cells) cells p) (sizes_of cells).slots ≡ true
-      → asked cells p ≡ Free (lowest_free (sizes_of cells) cells p)
+      → asked cells p ≡ Ok (lowest_free (sizes_of cells) cells p)
   unfolding asked ask_checks must
   asked_slot a b c = simp (a, b, c)
 
   -- the answer, by cases: no refusal has the number 0
-  abbrev Says : Asking → Type 0
-  Says (Free s) = Names cells p s
-  Says (Refused n) = (1 ≤ n) × (n ≡ 17 → NoneFree cells p)
+  abbrev Says : Result ℕ Refusal → Type 0
+  Says (Ok s) = Names cells p s
+  Says (Err n) = (1 ≤ refusal_number n) × (refusal_number n ≡ 17 → NoneFree cells p)
 
   says_17 : (sizes_of cells).slots ≤ lowest_free (sizes_of cells) cells p → NoneFree cells p
   says_17 h t l = is_first.lower t (omega arith) (omega arith)
@@ -120,30 +121,30 @@ module _ (cells : List ℕ) (p : ℕ) where
       (λ b. subst Says (sym (asked_4 a b)) (omega arith, λ e. absurd (omega arith))))
       (λ a. subst Says (sym (asked_3 a)) (omega arith, λ e. absurd (omega arith)))
 
-  named : (a : Asking) → Says a → ask_refusal a ≡ 0 → Names cells p (slot_named a)
-  named (Free s) i e = i
-  named (Refused n) i e = absurd (omega (arith, i.0))
+  named : (a : Result ℕ Refusal) → Says a → refusal_in a ≡ 0 → Names cells p (slot_named a)
+  named (Ok s) i e = i
+  named (Err n) i e = absurd (omega (arith, i.0))
 
-  stopped : (a : Asking) → Says a → ask_refusal a ≡ 17 → NoneFree cells p
-  stopped (Free s) i e = absurd (omega arith)
-  stopped (Refused n) i e = i.1 e
+  stopped : (a : Result ℕ Refusal) → Says a → refusal_in a ≡ 17 → NoneFree cells p
+  stopped (Ok s) i e = absurd (omega arith)
+  stopped (Err n) i e = i.1 e
 
   -- the slot that is named is free, and no lower one is
-  pub ask_names : ask_refusal (asked cells p) ≡ 0 → Names cells p (slot_named (asked cells p))
+  pub ask_names : refusal_in (asked cells p) ≡ 0 → Names cells p (slot_named (asked cells p))
   ask_names = named (asked cells p) says
 
   -- 17 exactly where none is free
-  pub ask_17_none : ask_refusal (asked cells p) ≡ 17 → NoneFree cells p
+  pub ask_17_none : refusal_in (asked cells p) ≡ 17 → NoneFree cells p
   ask_17_none = stopped (asked cells p) says
 
-  pub none_ask_17 : in_range cells ≡ true → p < (sizes_of cells).servers → NoneFree cells p → ask_refusal (asked cells p) ≡ 17
+  pub none_ask_17 : in_range cells ≡ true → p < (sizes_of cells).servers → NoneFree cells p → refusal_in (asked cells p) ≡ 17
   none_ask_17 a h none =
       let s = lowest_free (sizes_of cells) cells p in
       by_test (ltb s (sizes_of cells).slots)
       (λ c.
       let l = ltb-true s (sizes_of cells).slots c in
       clash (free s) (is_first.here (omega arith)) (none s l))
-      (λ c. ap ask_refusal (asked_17 a (lt-ltb p (sizes_of cells).servers h) c))
+      (λ c. ap refusal_in (asked_17 a (lt-ltb p (sizes_of cells).servers h) c))
 
   -- the numbers of the checks, in their order
   pub ask_numbers : numbers_of (refusals_of (ask_checks cells p)) ≡ 3 ∷ 4 ∷ 17 ∷ []
@@ -151,12 +152,12 @@ module _ (cells : List ℕ) (p : ℕ) where
   ask_numbers = refl
 
   -- the answer carries the lowest refusal that applies
-  pub ask_lowest : ask_refusal (asked cells p) ≡ lowest (refusals_of (ask_checks cells p))
+  pub ask_lowest : refusal_in (asked cells p) ≡ lowest (refusals_of (ask_checks cells p))
   unfolding asked ask_checks
-  ask_lowest = first_applies Refused ask_refusal (λ n. refl) (ask_checks cells p) refl
+  ask_lowest = first_applies (ask_checks cells p)
 
   -- and no lower one applies
   pub ask_least
-      : (r : Refusal) → Memᴰ r (refusals_of (ask_checks cells p)) → r.applies ≡ true → ask_refusal (asked cells p) ≤ r.number
+      : (r : Possible) → Memᴰ r (refusals_of (ask_checks cells p)) → r.applies ≡ true → refusal_in (asked cells p) ≤ r.number
   unfolding asked ask_checks numbers_of rises
-  ask_least = least_applies Refused ask_refusal (λ n. refl) (ask_checks cells p) refl refl
+  ask_least = least_applies (ask_checks cells p) refl

@@ -1,7 +1,7 @@
 -- Laws of put: its answers in the order of its checks, the lowest refusal that applies, what a refusal leaves; and a Put in
 -- the slot that an Ask of the same room named is done with any command.
 use Prim.Native.Nat.{ℕ, ◌≤◌}
-use mathlib.Core.Path.{◌≡◌, refl, sym, ap}
+use mathlib.Core.Path.{◌≡◌, refl, ◌∙◌, sym, ap, subst}
 use mathlib.Core.Bool.{true, false}
 use mathlib.Core.List.{List, [], ◌∷◌, Memᴰ}
 use mathlib.Core.Logic.{inl, inr}
@@ -9,49 +9,50 @@ use native.Mathlib.Omega.{arith}
 use lib.Dec.{ltb}
 use borrow.Author.Tests.{lt-ltb, ltb-true}
 use Rattle.lemmas.proofs.Tests.{by_test, and_intro, and_left, and_right}
-use Rattle.checks.specs.Checks.{must}
-use Rattle.checks.specs.Refusals.{Refusal, refusals_of, numbers_of, rises, lowest}
+use Rattle.std.specs.Prelude.{Result, Ok, Err}
+use Rattle.checks.specs.declared.Refusal.{Refusal}
+use Rattle.checks.specs.declared.Refusal.TheVariants.{OutOfRange, BeyondRoom, NoCommand, SlotNotFree}
+use Rattle.checks.specs.Checks.{must, mapped, left_by}
+use Rattle.checks.specs.Refusals.{Possible, refusal_number, refusal_in, refusals_of, numbers_of, rises, lowest}
 use Rattle.checks.proofs.CheckLaws.{must_cases}
 use Rattle.checks.proofs.LowestLaws.{first_applies, least_applies}
 use Rattle.command.specs.Command.{is_command}
+use Rattle.state.specs.declared.Answer.TheVariants.{Done}
 use Rattle.state.specs.declared.Answer.{Answer}
-use Rattle.state.specs.declared.Answer.TheVariants as answer
+use Rattle.state.specs.declared.Server.{Server}
 use Rattle.state.specs.declared.Step.TheVariants.{Offer}
-use Rattle.state.specs.Answers.{step_refusal}
+use Rattle.state.specs.Answers.{Answered}
 use Rattle.synod.specs.Arguments.{in_room, places_fit, command_fits}
-use Rattle.synod.specs.declared.Ruling.{Ruling}
-use Rattle.synod.specs.declared.Ruling.TheVariants as said
-use Rattle.synod.specs.Rules.{ruling, offer_rule, rule_of}
+use Rattle.synod.specs.Rules.{Ruling, ruling, offer_rule, rule_of}
 use Rattle.layout.specs.Cells.{sizes_of, limits_of, server_of}
 use Rattle.range.specs.Range.{in_range}
 use Rattle.range.proofs.Laws.{range_says}
 use Rattle.room.specs.declared.effect.Effect.{Effect}
-use Rattle.room.specs.declared.effect.Effect.TheVariants.{Refused}
 use Rattle.room.specs.Judge.{recording, effect_of, judged, answer_of}
-use Rattle.room.specs.Ready.{Ready}
+use Rattle.room.specs.Ready.{InSlot}
 use Rattle.room.specs.Step.{settled, answered, stepped}
-use Rattle.free_slots.specs.Ask.{free_at, asked, ask_refusal, slot_named}
+use Rattle.free_slots.specs.Ask.{free_at, asked, slot_named}
 use Rattle.free_slots.specs.Put.{put_rule, put_judged, put_answered, put_cells}
 use Rattle.free_slots.specs.AskThenPut.{Names, AsOffer, OnlyCommand}
 use Rattle.room.proofs.Checks.{passed}
 use Rattle.free_slots.proofs.AskLaws.{ask_names}
 
 module _ (r : List ℕ) (p s v : ℕ) where
-  pub put_3 : in_range r ≡ false → ruling (put_rule r p s v) ≡ said.Refused 3
+  pub put_3 : in_range r ≡ false → ruling (put_rule r p s v) ≡ Err OutOfRange
   unfolding put_rule must
   put_3 a = simp a
 
-  pub put_4 : in_range r ≡ true → in_room (sizes_of r) p s ≡ false → ruling (put_rule r p s v) ≡ said.Refused 4
+  pub put_4 : in_range r ≡ true → in_room (sizes_of r) p s ≡ false → ruling (put_rule r p s v) ≡ Err BeyondRoom
   unfolding put_rule must
   put_4 a b = simp (a, b)
 
   module _ (a : in_range r ≡ true) (b : in_room (sizes_of r) p s ≡ true) where
-    pub put_5 : is_command (limits_of r) v ≡ false → ruling (put_rule r p s v) ≡ said.Refused 5
+    pub put_5 : is_command (limits_of r) v ≡ false → ruling (put_rule r p s v) ≡ Err NoCommand
     unfolding put_rule must
     put_5 c = simp (a, b, c)
 
     module _ (c : is_command (limits_of r) v ≡ true) where
-      pub put_16 : free_at (sizes_of r) r p s ≡ false → ruling (put_rule r p s v) ≡ said.Refused 16
+      pub put_16 : free_at (sizes_of r) r p s ≡ false → ruling (put_rule r p s v) ≡ Err SlotNotFree
       unfolding put_rule must
       put_16 d = simp (a, b, c, d)
 
@@ -62,43 +63,48 @@ module _ (r : List ℕ) (p s v : ℕ) where
 
   -- what holds of every refusal, and of the rule of Offer where the checks pass, holds of the ruling
   pub by_rule {ℓ}
-      : (P : Ruling → Type ℓ) → ((n : ℕ) → 1 ≤ n → P (said.Refused n))
+      : (P : Ruling → Type ℓ) → ((n : Refusal) → 1 ≤ refusal_number n → P (Err n))
       → (in_range r ≡ true → in_room (sizes_of r) p s ≡ true → is_command (limits_of r) v ≡ true
       → free_at (sizes_of r) r p s ≡ true → P (ruling (offer_rule (server_of (sizes_of r) r s p) v)))
       → P (ruling (put_rule r p s v))
   unfolding put_rule
   by_rule P stop way =
-      must_cases said.Refused P _ 3 _ (stop 3 (omega arith))
+      must_cases P _ OutOfRange _ (stop OutOfRange (omega arith))
       (λ a.
-      must_cases said.Refused P _ 4 _ (stop 4 (omega arith))
+      must_cases P _ BeyondRoom _ (stop BeyondRoom (omega arith))
       (λ b.
-      must_cases said.Refused P _ 5 _ (stop 5 (omega arith))
+      must_cases P _ NoCommand _ (stop NoCommand (omega arith))
       (λ c.
-      must_cases said.Refused P _ 16 _ (stop 16 (omega arith)) (way a b c))))
+      must_cases P _ SlotNotFree _ (stop SlotNotFree (omega arith)) (way a b c))))
 
   -- the same of the effects
   pub by_put {ℓ}
-      : (P : Effect → Type ℓ) → ((n : ℕ) → 1 ≤ n → P (Refused n))
+      : (P : Result Effect Refusal → Type ℓ) → ((n : Refusal) → 1 ≤ refusal_number n → P (Err n))
       → (in_range r ≡ true → in_room (sizes_of r) p s ≡ true → is_command (limits_of r) v ≡ true
       → free_at (sizes_of r) r p s ≡ true → P (effect_of (sizes_of r) r (Offer p s v)))
       → P (put_judged r p s v)
   unfolding put_judged effect_of rule_of
-  by_put P stop way = by_rule (λ x. P (recording s p x)) stop way
+  by_put P stop way = by_rule (λ x. P (mapped (recording s p) x)) stop way
 
-  -- what a Put is to store has its place in the room
-  pub put_ready : Ready r (put_judged r p s v)
-  unfolding effect_of rule_of offer_rule
-  put_ready =
-      by_put (Ready r) (λ n h. tt)
-      (λ a b c d.
+  -- where a Put is accepted, its place is in the room
+  abbrev Placed : Ruling → Type 0
+  Placed (Ok x) = InSlot (sizes_of r) r s p
+  Placed (Err n) = Unit {0}
+
+  offer_placed : in_range r ≡ true → in_room (sizes_of r) p s ≡ true → Placed (ruling (offer_rule (server_of (sizes_of r) r s p) v))
+  unfolding offer_rule
+  offer_placed a b =
       record {
         row = (range_says r a).row;
         slot = ltb-true s (sizes_of r).slots (and_right (ltb p (sizes_of r).servers) (ltb s (sizes_of r).slots) b);
         server = ltb-true p (sizes_of r).servers (and_left (ltb p (sizes_of r).servers) (ltb s (sizes_of r).slots) b);
-      })
+      }
+
+  pub put_placed : (y : Ruling) (own : Server) (a : Answer) → y ≡ ruling (put_rule r p s v) → y ≡ Ok (own, a) → InSlot (sizes_of r) r s p
+  put_placed y own a said is = subst Placed (sym said ∙ is) (by_rule Placed (λ n h. tt) (λ a b c d. offer_placed a b))
 
   -- what an Offer does is answered with done
-  offer_done : answer_of (effect_of (sizes_of r) r (Offer p s v)) ≡ answer.Done
+  offer_done : mapped answer_of (effect_of (sizes_of r) r (Offer p s v)) ≡ Ok Done
   unfolding effect_of rule_of offer_rule
   offer_done = refl
 
@@ -107,59 +113,61 @@ module _ (r : List ℕ) (p s v : ℕ) where
   unfolding put_rule offer_rule numbers_of
   put_numbers = refl
 
-  -- the number with which a ruling refuses
-  abbrev refusal : Ruling → ℕ
-  refusal x = step_refusal (answer_of (recording s p x))
+  number_kept : (x : Ruling) → refusal_in (mapped answer_of (mapped (recording s p) x)) ≡ refusal_in x
+  number_kept (Ok x) = refl
+  number_kept (Err n) = refl
 
   -- the answer carries the lowest refusal that applies
-  pub put_lowest : step_refusal (put_answered r p s v) ≡ lowest (refusals_of (put_rule r p s v))
-  unfolding put_answered put_judged put_rule offer_rule
-  put_lowest = first_applies said.Refused refusal (λ n. refl) (put_rule r p s v) refl
+  pub put_lowest : refusal_in (put_answered r p s v) ≡ lowest (refusals_of (put_rule r p s v))
+  unfolding put_answered put_judged
+  put_lowest = number_kept (ruling (put_rule r p s v)) ∙ first_applies (put_rule r p s v)
 
   -- and no lower one applies
   pub put_least
-      : (x : Refusal) → Memᴰ x (refusals_of (put_rule r p s v)) → x.applies ≡ true → step_refusal (put_answered r p s v) ≤ x.number
+      : (x : Possible) → Memᴰ x (refusals_of (put_rule r p s v)) → x.applies ≡ true → refusal_in (put_answered r p s v) ≤ x.number
   unfolding put_answered put_judged put_rule offer_rule numbers_of rises
-  put_least = least_applies said.Refused refusal (λ n. refl) (put_rule r p s v) refl refl
+  put_least x m e = rw (number_kept (ruling (put_rule r p s v))) (least_applies (put_rule r p s v) refl x m e)
 
   -- a refusal leaves every cell as it was
-  pub put_leaves : (step_refusal (put_answered r p s v) ≡ 0 → ⊥) → put_cells r p s v ≡ r
+  pub put_leaves : (refusal_in (put_answered r p s v) ≡ 0 → ⊥) → put_cells r p s v ≡ r
   unfolding put_answered put_cells settled
   put_leaves =
-      by_put (λ (e : Effect). (step_refusal (answer_of e) ≡ 0 → ⊥) → settled (sizes_of r) r e ≡ r) (λ n h k. refl)
-      (λ a b c d k. absurd (k (ap step_refusal offer_done)))
+      by_put
+      (λ e. (refusal_in (mapped answer_of e) ≡ 0 → ⊥) → left_by (settled (sizes_of r) r) r e ≡ r)
+      (λ n h k. refl)
+      (λ a b c d k. absurd (k (ap refusal_in offer_done)))
 
   -- where a Put is not refused, it is judged as the Offer, and so does what that does
-  judged_alike : step_refusal (put_answered r p s v) ≡ 0 → put_judged r p s v ≡ judged r (Offer p s v)
+  judged_alike : refusal_in (put_answered r p s v) ≡ 0 → put_judged r p s v ≡ judged r (Offer p s v)
   unfolding put_answered places_fit command_fits
   judged_alike =
-      by_put (λ (e : Effect). step_refusal (answer_of e) ≡ 0 → e ≡ judged r (Offer p s v))
+      by_put (λ e. refusal_in (mapped answer_of e) ≡ 0 → e ≡ judged r (Offer p s v))
       (λ n h k. absurd (omega arith))
       (λ a b c d k. sym (passed r (Offer p s v) a b c))
 
-  pub put_as_offer : step_refusal (put_answered r p s v) ≡ 0 → AsOffer r p s v
+  pub put_as_offer : refusal_in (put_answered r p s v) ≡ 0 → AsOffer r p s v
   unfolding put_answered put_cells answered stepped
   put_as_offer e =
       let same = judged_alike e in
-      record { answers = ap answer_of same; leaves = ap (settled (sizes_of r) r) same }
+      record { answers = ap (mapped answer_of) same; leaves = ap (left_by (settled (sizes_of r) r) r) same }
 
   named : Names r p s → OnlyCommand r p s v
   unfolding put_answered put_judged offer_rule
   named n =
       let places = and_intro _ _ (lt-ltb p (sizes_of r).servers n.server) (lt-ltb s (sizes_of r).slots n.slot) in
-      let said-by : Ruling → Answer = λ x. answer_of (recording s p x) in
-      let done : is_command (limits_of r) v ≡ true → put_answered r p s v ≡ answer.Done =
+      let said-by : Ruling → Answered = λ x. mapped answer_of (mapped (recording s p) x) in
+      let done : is_command (limits_of r) v ≡ true → put_answered r p s v ≡ Ok Done =
       λ c. ap said-by (put_passed n.range places c n.free) in
-      let five : is_command (limits_of r) v ≡ false → put_answered r p s v ≡ answer.Refused 5 =
+      let five : is_command (limits_of r) v ≡ false → put_answered r p s v ≡ Err NoCommand =
       λ c. ap said-by (put_5 n.range places c) in
       record {
         command = done;
         otherwise = five;
         no_other =
-            by_test (is_command (limits_of r) v) (λ c. inl (ap step_refusal (done c))) (λ c. inr (ap step_refusal (five c)));
+            by_test (is_command (limits_of r) v) (λ c. inl (ap refusal_in (done c))) (λ c. inr (ap refusal_in (five c)));
       }
 
 -- where Ask names a slot, a Put of the same server there, on the same room, is done if it is a command and 5 if not
 pub put_after_ask
-    : (r : List ℕ) (p v : ℕ) → ask_refusal (asked r p) ≡ 0 → OnlyCommand r p (slot_named (asked r p)) v
+    : (r : List ℕ) (p v : ℕ) → refusal_in (asked r p) ≡ 0 → OnlyCommand r p (slot_named (asked r p)) v
 put_after_ask r p v e = named r p (slot_named (asked r p)) v (ask_names r p e)

@@ -1,12 +1,12 @@
 -- Ask (SPEC, "Ask and Put"): 3 the room, 4 the server, 17 no slot is free. It changes no cell.
-use Rattle.std.specs.Prelude.{ℕ, zero, suc, Bool, cond, List, ltb}
+use Rattle.std.specs.Prelude.{ℕ, zero, suc, Bool, cond, List, ltb, Result, Ok, Err}
+use Rattle.checks.specs.declared.Refusal.{Refusal}
+use Rattle.checks.specs.declared.Refusal.TheVariants.{OutOfRange, BeyondRoom, NoSlotFree}
 use Rattle.checks.specs.Checks.{Checked, Must, Gives, outcome}
 use Rattle.state.specs.declared.Sizes.{Sizes}
 use Rattle.state.specs.Server.{is_free}
 use Rattle.layout.specs.Cells.{sizes_of, server_of}
 use Rattle.range.specs.Range.{in_range}
-use Rattle.free_slots.specs.declared.asking.Asking.{Asking}
-use Rattle.free_slots.specs.declared.asking.Asking.TheVariants.{Free, Refused}
 
 -- slot s is free for server p
 unfoldable pub free_at : Sizes → List ℕ → ℕ → ℕ → Bool
@@ -21,23 +21,18 @@ first_from f s (suc n) = cond (f s) s (first_from f (suc s) n)
 unfoldable pub lowest_free : Sizes → List ℕ → ℕ → ℕ
 lowest_free z cells p = first_from (free_at z cells p) 0 z.slots
 
-unfoldable pub ask_checks : List ℕ → ℕ → Checked Asking
+unfoldable pub ask_checks : List ℕ → ℕ → Checked ℕ
 ask_checks cells p =
-    Must (in_range cells) 3
-    (Must (ltb p (sizes_of cells).servers) 4
-    (Must (ltb (lowest_free (sizes_of cells) cells p) (sizes_of cells).slots) 17
-    (Gives (Free (lowest_free (sizes_of cells) cells p)))))
+    Must (in_range cells) OutOfRange
+    (Must (ltb p (sizes_of cells).servers) BeyondRoom
+    (Must (ltb (lowest_free (sizes_of cells) cells p) (sizes_of cells).slots) NoSlotFree
+    (Gives (lowest_free (sizes_of cells) cells p))))
 
--- what ask answers
-unfoldable pub asked : List ℕ → ℕ → Asking
-asked cells p = outcome Refused (ask_checks cells p)
+-- what ask answers: the slot
+unfoldable pub asked : List ℕ → ℕ → Result ℕ Refusal
+asked cells p = outcome (ask_checks cells p)
 
--- the number of a refusal; 0 where a slot is named
-abbrev pub ask_refusal : Asking → ℕ
-ask_refusal (Free s) = 0
-ask_refusal (Refused n) = n
-
--- the slot that is named; a refusal carries only its number
-abbrev pub slot_named : Asking → ℕ
-slot_named (Free s) = s
-slot_named (Refused n) = 0
+-- the slot that is named; a refusal names none
+abbrev pub slot_named : Result ℕ Refusal → ℕ
+slot_named (Ok s) = s
+slot_named (Err refusal) = 0

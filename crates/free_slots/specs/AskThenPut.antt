@@ -1,10 +1,11 @@
 -- What is promised of Ask and Put (SPEC, "Ask and Put"), of every row: what the slot that Ask names is, where it names none,
 -- what an accepted Put does, and what a Put in the slot named is answered.
-use Rattle.std.specs.Prelude.{ℕ, ◌<◌, ◌≡◌, true, false, List, ◌⊎◌}
+use Rattle.std.specs.Prelude.{ℕ, ◌<◌, ◌≡◌, true, false, List, ◌⊎◌, Ok, Err}
 use Rattle.command.specs.Command.{is_command}
-use Rattle.state.specs.declared.Answer.TheVariants.{Done, Refused}
+use Rattle.checks.specs.declared.Refusal.TheVariants.{NoCommand}
+use Rattle.checks.specs.Refusals.{refusal_in}
+use Rattle.state.specs.declared.Answer.TheVariants.{Done}
 use Rattle.state.specs.declared.Step.TheVariants.{Offer}
-use Rattle.state.specs.Answers.{step_refusal}
 use Rattle.layout.specs.Cells.{sizes_of, limits_of}
 use Rattle.range.specs.Range.{in_range}
 use Rattle.free_slots.specs.Ask.{free_at}
@@ -30,6 +31,6 @@ pub record AsOffer (cells : List ℕ) (p s v : ℕ) : Type 0 where
 
 -- a Put of v is done if v is a command and refused with 5 if not, and meets no other refusal
 pub record OnlyCommand (cells : List ℕ) (p s v : ℕ) : Type 0 where
-  pub command : is_command (limits_of cells) v ≡ true → put_answered cells p s v ≡ Done
-  pub otherwise : is_command (limits_of cells) v ≡ false → put_answered cells p s v ≡ Refused 5
-  pub no_other : (step_refusal (put_answered cells p s v) ≡ 0) ⊎ (step_refusal (put_answered cells p s v) ≡ 5)
+  pub command : is_command (limits_of cells) v ≡ true → put_answered cells p s v ≡ Ok Done
+  pub otherwise : is_command (limits_of cells) v ≡ false → put_answered cells p s v ≡ Err NoCommand
+  pub no_other : (refusal_in (put_answered cells p s v) ≡ 0) ⊎ (refusal_in (put_answered cells p s v) ≡ 5)

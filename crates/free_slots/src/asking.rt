@@ -3,33 +3,27 @@ ghost use Rattle.std.specs.Prelude.{◌≡◌, ◌<◌};
 ghost use Rattle.layout.specs.Places.{Row};
 ghost use Rattle.free_slots.specs.Ask.{lowest_free, asked};
 
+use checks::Refusal;
 use state::Sizes;
-
-// What ask answers: the slot, or the number of the refusal.
-#[derive(Clone, Copy)]
-pub enum Asking {
-    Free(u32),
-    Refused(u32),
-}
 
 // The lowest slot that is free for the server; no cell changes. Refused with 3 where the row is no room in range, with 4
 // where the server is beyond the room, and with 17 where no slot is free for it.
 #[tactic(auto, using(room::proofs::Ranged::ranged_head, room::proofs::Ranged::ranged_row), unfolding(checks::specs::Checks::must, crate::specs::Ask::asked, crate::specs::Ask::ask_checks))]
-pub fn ask(room: &[u32], server: u32) -> Asking
+pub fn ask(room: &[u32], server: u32) -> Result<u32, Refusal>
     ensures { result ≡ asked room.now server }
 {
     if !range::in_range(room) {
-        return Asking::Refused(3);
+        return Err(Refusal::OutOfRange);
     }
     let z = layout::sizes(room);
     if z.servers <= server {
-        return Asking::Refused(4);
+        return Err(Refusal::BeyondRoom);
     }
     let slot = lowest_free(room, z, server as u8);
     if z.slots <= slot {
-        return Asking::Refused(17);
+        return Err(Refusal::NoSlotFree);
     }
-    Asking::Free(slot)
+    Ok(slot)
 }
 
 // The lowest slot that is free for server p; the number of slots where none is.

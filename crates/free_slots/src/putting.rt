@@ -3,6 +3,7 @@ ghost use Rattle.std.specs.Prelude.{◌≡◌};
 ghost use Rattle.synod.specs.Rules.{ruling};
 ghost use Rattle.free_slots.specs.Put.{put_rule, put_answered, put_cells};
 
+use checks::Refusal;
 use state::Answer;
 use synod::Ruling;
 
@@ -10,18 +11,14 @@ use synod::Ruling;
 // in range, with 4 where the server or the slot is beyond the room, with 5 where the number is no command, and with 16 where
 // the slot is not free; then no cell changes.
 #[tactic(auto, unfolding(crate::specs::Put::put_answered, crate::specs::Put::put_cells, crate::specs::Put::put_judged, room::specs::Step::settled))]
-pub fn put(room: &mut [u32], server: u32, slot: u32, command: u32) -> Answer
+pub fn put(room: &mut [u32], server: u32, slot: u32, command: u32) -> Result<Answer, Refusal>
     ensures { (result ≡ put_answered room.old server slot command)
         × (room.new ≡ put_cells room.old server slot command) }
 {
-    match judge_put(room, server, slot, command) {
-        Ruling::Refused(number) => Answer::Refused(number),
-        Ruling::Accepted(record, answer) => {
-            let z = layout::sizes(room);
-            layout::store_server(room, z, slot as u8, server as u8, record);
-            answer
-        }
-    }
+    let (record, answer) = judge_put(room, server, slot, command)?;
+    let z = layout::sizes(room);
+    layout::store_server(room, z, slot as u8, server as u8, record);
+    Ok(answer)
 }
 
 // The checks of a Put, then the rule of Offer. Nothing is stored.
@@ -30,19 +27,19 @@ fn judge_put(room: &[u32], server: u32, slot: u32, command: u32) -> Ruling
     ensures { result ≡ ruling (put_rule room.now server slot command) }
 {
     if !range::in_range(room) {
-        return Ruling::Refused(3);
+        return Err(Refusal::OutOfRange);
     }
     let z = layout::sizes(room);
     if !((server < z.servers) & (slot < z.slots)) {
-        return Ruling::Refused(4);
+        return Err(Refusal::BeyondRoom);
     }
     let limits = layout::limits(room);
     if !command::is_command(&limits, command) {
-        return Ruling::Refused(5);
+        return Err(Refusal::NoCommand);
     }
     let own = layout::server(room, z, slot as u8, server as u8);
     if !own.is_free() {
-        return Ruling::Refused(16);
+        return Err(Refusal::SlotNotFree);
     }
     rules::offer(own, command)
 }

@@ -6,42 +6,44 @@ use mathlib.Core.Bool.{Bool, true, false, true≢false, cond}
 use mathlib.Core.List.{List}
 use lib.Dec.{eqb}
 use borrow.Author.Tests.{eqb-true}
-use Rattle.state.specs.declared.Answer.{Answer}
-use Rattle.state.specs.declared.Answer.TheVariants as answer
+use Rattle.std.specs.Prelude.{Err}
+use Rattle.checks.specs.declared.Refusal.{Refusal}
+use Rattle.checks.specs.Checks.{mapped}
+use Rattle.state.specs.Answers.{Answered}
 use Rattle.state.specs.declared.Sizes.{Sizes}
 use Rattle.state.specs.declared.Step.{Step}
 use Rattle.state.specs.View.{Brings, Stores, Alone, View, AtSlot, AtServer, AtDrive, view_of, view_slot}
 use Rattle.synod.proofs.Machine.{ruled}
-use Rattle.synod.specs.declared.Ruling.{Ruling}
+use Rattle.synod.specs.Rules.{Ruling}
 use Rattle.synod.specs.Slot.{Slot, config_of}
 use Rattle.synod.proofs.Rulings.{Plain, plain}
 use Rattle.layout.specs.Cells.{off_of}
 use Rattle.room.specs.Judge.{seen, effect_of, answer_of}
 use Rattle.step_laws.specs.Concerns.{concerns_at, concerns}
-use Rattle.step_laws.proofs.Lowest.{answer_by, effect_answer}
+use Rattle.step_laws.proofs.Answering.{answer_by, effect_answer}
 use Rattle.history.specs.Run.{Rests, deed_move, move_at, move_of}
 
 rests_anyway : (b : Bool) → cond b Rests Rests ≡ Rests
 rests_anyway true = refl
 rests_anyway false = refl
 
-refused_view : (t : ℕ) (w : View) (n : ℕ) → move_at t w (answer.Refused n) ≡ Rests
+refused_view : (t : ℕ) (w : View) (n : Refusal) → move_at t w (Err n) ≡ Rests
 refused_view t (AtSlot p s (Brings c)) n = rests_anyway (eqb s t)
 refused_view t (AtSlot p s (Stores d)) n = rests_anyway (eqb s t)
 refused_view t (AtSlot p s Alone) n = rests_anyway (eqb s t)
 refused_view t (AtServer p) n = refl
 refused_view t (AtDrive d on) n = refl
 
-pub refused_rests : (t : ℕ) (st : Step) (n : ℕ) → move_of t st (answer.Refused n) ≡ Rests
+pub refused_rests : (t : ℕ) (st : Step) (n : Refusal) → move_of t st (Err n) ≡ Rests
 unfolding move_of
 refused_rests t st n = refused_view t (view_of st) n
 
-unconcerned_view : (t : ℕ) (w : View) (a : Answer) → concerns_at t w ≡ false → move_at t w a ≡ Rests
+unconcerned_view : (t : ℕ) (w : View) (a : Answered) → concerns_at t w ≡ false → move_at t w a ≡ Rests
 unconcerned_view t (AtSlot p s k) a e = ap (λ (b : Bool). cond b (deed_move p k a) Rests) e
 unconcerned_view t (AtServer p) a e = absurd (true≢false e)
 unconcerned_view t (AtDrive d on) a e = refl
 
-pub unconcerned : (t : ℕ) (st : Step) (a : Answer) → concerns t st ≡ false → move_of t st a ≡ Rests
+pub unconcerned : (t : ℕ) (st : Step) (a : Answered) → concerns t st ≡ false → move_of t st a ≡ Rests
 unfolding move_of concerns
 unconcerned t st a e = unconcerned_view t (view_of st) a e
 
@@ -55,7 +57,7 @@ view_answer z r (AtDrive d on) f t e plainly = absurd (true≢false (sym e))
 
 pub answer_tie
     : (z : Sizes) (r : List ℕ) (st : Step) (t : ℕ) → concerns t st ≡ true
-    → answer_of (effect_of z r st) ≡ answer_by (ruled (config_of z) (off_of r) (seen z r t) st)
+    → mapped answer_of (effect_of z r st) ≡ answer_by (ruled (config_of z) (off_of r) (seen z r t) st)
 unfolding effect_of concerns
 answer_tie z r st t e =
     let f : Slot → Ruling = λ σ. ruled (config_of z) (off_of r) σ st in

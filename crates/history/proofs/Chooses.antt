@@ -8,10 +8,9 @@ use mathlib.Core.Logic.{inl, inr}
 use lib.Dec.{eqb}
 use borrow.Author.Tests.{eqb-true, eq-eqb}
 use Rattle.lemmas.proofs.Tests.{by_test}
-use Rattle.state.specs.declared.Answer.{Answer}
 use Rattle.state.specs.declared.Step.{Step}
 use Rattle.state.specs.declared.Step.TheVariants.{Offer, Read, Finish}
-use Rattle.state.specs.Answers.{code_of}
+use Rattle.state.specs.Answers.{Answered, code_of}
 use Rattle.state.specs.View.{Alone, AtSlot, view_of}
 use Rattle.room.specs.Step.{answered}
 use Rattle.step_laws.specs.Committing.{FinishOrRead}
@@ -36,7 +35,7 @@ unfolding move_of
 read_chooses t p d q cells e = rw (eq-eqb t t refl, e) refl
 
 module _ (kind : ℕ → ℕ → Step) (alone : (p s : ℕ) → view_of (kind p s) ≡ AtSlot p s Alone) where
-  placed : (t p s : ℕ) (a : Answer) → WhenChooses (move_of t (kind p s) a) (λ q. kind p s ≡ kind q t)
+  placed : (t p s : ℕ) (a : Answered) → WhenChooses (move_of t (kind p s) a) (λ q. kind p s ≡ kind q t)
   unfolding move_of
   placed t p s a =
       rw (alone p s)
@@ -71,7 +70,7 @@ step_commits t cells st =
         (commit_by (λ p s. Read p s r.drive r.other) (λ p s. refl) t r.server r.slot cells st r.is e)
 
 -- an Offer makes no Choose, whatever its answer
-offers_only : (t p s v : ℕ) (a : Answer) (A : ℕ → Type 0) → WhenChooses (move_of t (Offer p s v) a) A
+offers_only : (t p s v : ℕ) (a : Answered) (A : ℕ → Type 0) → WhenChooses (move_of t (Offer p s v) a) A
 unfolding move_of
 offers_only t p s v a A =
     tested (eqb s t) (cond (accepted a) (Offers p v) Rests) A (λ e. tested (accepted a) (Offers p v) A (λ k. tt))

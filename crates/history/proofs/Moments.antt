@@ -5,12 +5,14 @@ use mathlib.Core.Path.{◌≡◌, ◌∙◌, sym, ap, subst}
 use mathlib.Core.Bool.{true, cond}
 use mathlib.Core.List.{List}
 use Rattle.lemmas.proofs.Tests.{by_test}
-use Rattle.state.specs.declared.Answer.{Answer}
-use Rattle.state.specs.declared.Answer.TheVariants as answer
+use Rattle.std.specs.Prelude.{Result, Err}
+use Rattle.checks.specs.declared.Refusal.{Refusal}
+use Rattle.checks.specs.Checks.{mapped, left_by}
+use Rattle.state.specs.Answers.{Answered}
 use Rattle.state.specs.declared.Sizes.{Sizes}
 use Rattle.state.specs.declared.Step.{Step}
 use Rattle.state.specs.declared.Step.TheVariants.{Offer}
-use Rattle.synod.specs.declared.Ruling.{Ruling}
+use Rattle.synod.specs.Rules.{Ruling}
 use Rattle.synod.specs.Arguments.{places_fit, command_fits}
 use Rattle.synod.proofs.Machine.{ruled, after, Fits}
 use Rattle.synod.proofs.Past.{Ghost, noted}
@@ -22,7 +24,6 @@ use Rattle.synod.proofs.Places.{in_view}
 use Rattle.layout.specs.Places.{Fit}
 use Rattle.layout.specs.Cells.{limits_of, off_of, sizes_of}
 use Rattle.room.specs.declared.effect.Effect.{Effect}
-use Rattle.room.specs.declared.effect.Effect.TheVariants.{Refused}
 use Rattle.room.specs.Judge.{seen, effect_of, judged, answer_of}
 use Rattle.room.specs.Step.{settled, answered, stepped}
 use Rattle.free_slots.specs.Put.{put_judged, put_answered, put_cells}
@@ -36,7 +37,7 @@ use Rattle.step_laws.proofs.SlotTie.{slot_tie}
 use Rattle.history.specs.Calls.{Call, Steps, Asks, Puts, Event, event_of, called}
 use Rattle.history.specs.Run.{Move, Rests, move_of, move_in, output_in, output_by, WhenChooses}
 use Rattle.history.proofs.SlotMoves.{Moves, rests}
-use Rattle.step_laws.proofs.Lowest.{answer_by}
+use Rattle.step_laws.proofs.Answering.{answer_by}
 use Rattle.history.proofs.StepMoves.{MovesBy, concerned}
 use Rattle.history.proofs.Answers.{refused_rests, unconcerned, answer_tie}
 use Rattle.history.proofs.Choosers.{chooses_map, chooser}
@@ -55,7 +56,7 @@ pub record Next (limits : List ℕ) (z : Sizes) (g : ℕ → Ghost) (σ : ℕ �
   pub within : (t : ℕ) → WhenChooses (move t) (λ p. p < z.servers)
 
 -- the moment after a step with this answer, and after an event
-abbrev AfterStep : List ℕ → Sizes → (ℕ → Ghost) → (ℕ → Slot) → Step → Answer → List ℕ → Type 0
+abbrev AfterStep : List ℕ → Sizes → (ℕ → Ghost) → (ℕ → Slot) → Step → Answered → List ℕ → Type 0
 AfterStep limits z g σ st a cells = Next limits z g σ (λ t. move_of t st a) (λ t. output_in (move_of t st a) a) cells
 
 abbrev pub After : List ℕ → Sizes → (ℕ → Ghost) → (ℕ → Slot) → Event → List ℕ → Type 0
@@ -65,7 +66,7 @@ fits_of : (z : Sizes) → Fit z → Fits (config_of z)
 fits_of z f = record { servers = f.servers; drives = f.drives }
 
 -- at a slot where nothing shows
-resting : (t : ℕ) (g : Ghost) (σ : Slot) (st : Step) (a : Answer) → move_of t st a ≡ Rests → MovesBy t g σ st a g σ
+resting : (t : ℕ) (g : Ghost) (σ : Slot) (st : Step) (a : Answered) → move_of t st a ≡ Rests → MovesBy t g σ st a g σ
 resting t g σ st a e = rw e (rests g σ)
 
 module _ (limits : List ℕ) (z : Sizes) (cells : List ℕ) (g : ℕ → Ghost) (σ : ℕ → Slot) (now : Moment limits z cells g σ) where
@@ -102,7 +103,7 @@ module _ (limits : List ℕ) (z : Sizes) (cells : List ℕ) (g : ℕ → Ghost) 
 
   moves_after
       : (st : Step) → places_fit z st ≡ true → (t : ℕ) → t < z.slots
-      → MovesBy t (g t) (σ t) st (answer_of (effect_of z cells st)) (ghost_after st t) (after_at z (off_of cells) t (σ t) st)
+      → MovesBy t (g t) (σ t) st (mapped answer_of (effect_of z cells st)) (ghost_after st t) (after_at z (off_of cells) t (σ t) st)
   unfolding after_at
   moves_after st h t l =
       by_test (concerns t st)
@@ -110,11 +111,11 @@ module _ (limits : List ℕ) (z : Sizes) (cells : List ℕ) (g : ℕ → Ghost) 
       let same =
       answer_tie z cells st t e ∙ sym (ap answer_by (ruled_alike z (off_of cells) (now.alike t l) st h)) in
       rw (e, same) (concerned z (fits_of z fit) (off_of cells) (g t) (σ t) (now.holds t l) st h t e))
-      (λ e. rw e (resting t (g t) (σ t) st (answer_of (effect_of z cells st)) (unconcerned t st (answer_of (effect_of z cells st)) e)))
+      (λ e. rw e (resting t (g t) (σ t) st (mapped answer_of (effect_of z cells st)) (unconcerned t st (mapped answer_of (effect_of z cells st)) e)))
 
   effect_next
       : (st : Step) → places_fit z st ≡ true → command_fits limits st ≡ true
-      → AfterStep limits z g σ st (answer_of (effect_of z cells st)) (settled z cells (effect_of z cells st))
+      → AfterStep limits z g σ st (mapped answer_of (effect_of z cells st)) (left_by (settled z cells) cells (effect_of z cells st))
   effect_next st h k =
       record {
         ghosts = ghost_after st;
@@ -130,26 +131,25 @@ module _ (limits : List ℕ) (z : Sizes) (cells : List ℕ) (g : ℕ → Ghost) 
         moves = moves_after st h;
         within =
             λ t.
-            chooses_map (move_of t st (answer_of (effect_of z cells st))) _ _ (λ p c. c.within z (in_view z st h)) (chooser t st (answer_of (effect_of z cells st)));
+            chooses_map (move_of t st (mapped answer_of (effect_of z cells st))) _ _ (λ p c. c.within z (in_view z st h)) (chooser t st (mapped answer_of (effect_of z cells st)));
       }
 
-  refused_next : (st : Step) (n : ℕ) → AfterStep limits z g σ st (answer.Refused n) cells
+  refused_next : (st : Step) (n : Refusal) → AfterStep limits z g σ st (Err n) cells
   refused_next st n =
       record {
         ghosts = g;
         slots = σ;
         moment = now;
-        moves = λ t l. resting t (g t) (σ t) st (answer.Refused n) (refused_rests t st n);
+        moves = λ t l. resting t (g t) (σ t) st (Err n) (refused_rests t st n);
         within = λ t. rw (refused_rests t st n) tt;
       }
 
 module _ (z : Sizes) (cells : List ℕ) (g : ℕ → Ghost) (σ : ℕ → Slot) (now : Moment (limits_of cells) z cells g σ) where
-  -- what an effect leads to
-  abbrev Leads : Step → Effect → Type 0
-  Leads st e = AfterStep (limits_of cells) z g σ st (answer_of e) (settled z cells e)
+  -- what a judgement leads to
+  abbrev Leads : Step → Result Effect Refusal → Type 0
+  Leads st e = AfterStep (limits_of cells) z g σ st (mapped answer_of e) (left_by (settled z cells) cells e)
 
-  leads_refused : (st : Step) (n : ℕ) → Leads st (Refused n)
-  unfolding settled
+  leads_refused : (st : Step) (n : Refusal) → Leads st (Err n)
   leads_refused st n = refused_next (limits_of cells) z cells g σ now st n
 
   leads_effect
@@ -163,9 +163,9 @@ module _ (z : Sizes) (cells : List ℕ) (g : ℕ → Ghost) (σ : ℕ → Slot) 
   leads_judged : (st : Step) → Leads st (judged cells st)
   leads_judged st =
       by_checks cells st (Leads st)
-      (λ a. leads_refused st 3)
-      (λ a b. leads_refused st 4)
-      (λ a b c. leads_refused st 5)
+      (λ a. leads_refused st _)
+      (λ a b. leads_refused st _)
+      (λ a b c. leads_refused st _)
       (λ a b c. leads_effect st b c)
 
   -- a Put that is judged leads where the Offer does
@@ -175,9 +175,12 @@ module _ (z : Sizes) (cells : List ℕ) (g : ℕ → Ghost) (σ : ℕ → Slot) 
       by_put cells p s v (Leads st) (λ n h. leads_refused st n) (λ a b c d. unfold places_fit command_fits in leads_effect st b c)
 
   -- the effect is stored by the room's own sizes
-  stored : (st : Step) (e : Effect) → Leads st e → AfterStep (limits_of cells) z g σ st (answer_of e) (settled (sizes_of cells) cells e)
+  stored
+      : (st : Step) (e : Result Effect Refusal) → Leads st e
+      → AfterStep (limits_of cells) z g σ st (mapped answer_of e) (left_by (settled (sizes_of cells) cells) cells e)
   stored st e l =
-      subst (λ (y : Sizes). AfterStep (limits_of cells) z g σ st (answer_of e) (settled y cells e)) (sym now.whole.sizes) l
+      subst (λ (y : Sizes). AfterStep (limits_of cells) z g σ st (mapped answer_of e) (left_by (settled y cells) cells e))
+      (sym now.whole.sizes) l
 
   -- a call leads from a moment to the next
   pub next : (c : Call) → After (limits_of cells) z g σ (event_of cells c) (called cells c)

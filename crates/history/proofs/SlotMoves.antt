@@ -4,6 +4,7 @@ use Prim.Native.Nat.{ℕ}
 use mathlib.Core.Path.{◌≡◌, refl, ◌∙◌, sym, ap}
 use mathlib.Core.Bool.{true, cond}
 use mathlib.Core.List.{◌∷◌, Memᴰ}
+use Rattle.std.specs.Prelude.{Ok}
 use Rattle.state.specs.declared.Answer.{Answer}
 use Rattle.state.specs.declared.Answer.TheVariants as answer
 use Rattle.synod.proofs.Past.{Ghost, Tried, heard, note_commit, commit_ballot}
@@ -99,13 +100,13 @@ commits c g σ τ p b y inv none outs offs =
 -- a step whose ruling is accepted with the answer a, by server p
 pub listens
     : (c : Config) (g : Ghost) (σ τ : Slot) (p b : ℕ) (a : Answer) → Invariant c (heard g b a) τ
-    → (committed a ≡ true → outputs σ p ≡ 0)
+    → (committed (Ok a) ≡ true → outputs σ p ≡ 0)
     → ((q : ℕ) → outputs τ q ≡ told (outputs σ) p a q) → ((q : ℕ) → offers τ q ≡ offers σ q)
-    → Moves g σ (cond (committed a) (Chooses p) Rests) (output_in (cond (committed a) (Chooses p) Rests) a) (heard g b a) τ
+    → Moves g σ (cond (committed (Ok a)) (Chooses p) Rests) (output_in (cond (committed (Ok a)) (Chooses p) Rests) (Ok a))
+    (heard g b a) τ
 unfolding heard told
 listens c g σ τ p b answer.Done inv none outs offs = quietly g g σ τ refl refl outs offs
 listens c g σ τ p b (answer.Outbid n) inv none outs offs = quietly g g σ τ refl refl outs offs
 listens c g σ τ p b (answer.Chosen y) inv none outs offs = quietly g (heard g b (answer.Chosen y)) σ τ refl refl outs offs
 listens c g σ τ p b (answer.Committed y) inv none outs offs =
     commits c g σ τ p (commit_ballot b y g.commits) y inv (none refl) outs offs
-listens c g σ τ p b (answer.Refused n) inv none outs offs = quietly g g σ τ refl refl outs offs

@@ -4,30 +4,29 @@ use mathlib.Core.Path.{◌≡◌, refl, ◌∙◌, sym, ap}
 use mathlib.Core.Bool.{true, true≢false, cond}
 use mathlib.Core.List.{◌∷◌}
 use borrow.Author.Tests.{eqb-true}
+use Rattle.std.specs.Prelude.{Ok, Err}
 use Rattle.state.specs.declared.Answer.{Answer}
 use Rattle.state.specs.declared.Sizes.{Sizes}
 use Rattle.state.specs.declared.Step.{Step}
 use Rattle.state.specs.declared.Step.TheVariants.{Offer, Recall, Rejoin, Bid, Write, Read, Finish, Fail, DriveOff, DriveOn}
-use Rattle.state.specs.Answers.{code_of}
+use Rattle.state.specs.Answers.{Answered, code_of}
 use Rattle.state.specs.View.{Stores, Alone, View, AtSlot, view_of}
-use Rattle.synod.specs.declared.Ruling.{Ruling}
-use Rattle.synod.specs.declared.Ruling.TheVariants.{Refused, Accepted}
 use Rattle.synod.specs.Arguments.{places_fit}
 use Rattle.synod.proofs.Machine.{ruled, after, Fits}
 use Rattle.synod.proofs.Past.{Ghost, heard, ghost_after, noted}
-use Rattle.synod.specs.Rules.{offer_rule, rule_of}
+use Rattle.synod.specs.Rules.{Ruling, offer_rule, rule_of}
 use Rattle.synod.specs.Slot.{Slot, Config, config_of}
 use Rattle.synod.proofs.Invariant.{Invariant}
 use Rattle.synod.proofs.Kept.{kept}
 use Rattle.synod.proofs.Outputs.{outputs, offers, told, outputs_at, outputs_after, offers_at, offers_after, outputs_told, offers_told, word_of, view_server, none_before}
 use Rattle.step_laws.specs.Concerns.{concerns_at, concerns}
-use Rattle.step_laws.proofs.Lowest.{answer_by}
+use Rattle.step_laws.proofs.Answering.{answer_by}
 use Rattle.history.specs.Run.{Move, Offers, Chooses, Fails, Rests, committed, move_at, move_of, output_in}
 use Rattle.history.proofs.Firsts.{or_zero, first_command}
 use Rattle.history.proofs.SlotMoves.{Moves, rests, listens}
 
 -- the move and the output of a step in slot t with an answer
-abbrev pub MovesBy : ℕ → Ghost → Slot → Step → Answer → Ghost → Slot → Type 0
+abbrev pub MovesBy : ℕ → Ghost → Slot → Step → Answered → Ghost → Slot → Type 0
 MovesBy t g σ st a h τ = Moves g σ (move_of t st a) (output_in (move_of t st a) a) h τ
 
 -- a view that shows only by a committed answer of its server
@@ -35,7 +34,7 @@ record Listener (w : View) : Type 0 where
   notes : (g : Ghost) (σ : Slot) (a : Answer) → ghost_after g σ w a ≡ heard g (σ (view_server w)).own.mbal a
   outs : (f : ℕ → ℕ) (a : Answer) → outputs_at f w a ≡ told f (view_server w) a
   offs : (f : ℕ → ℕ) → offers_at f w ≡ f
-  moves : (t : ℕ) (a : Answer) → move_at t w a ≡ cond (concerns_at t w) (cond (committed a) (Chooses (view_server w)) Rests) Rests
+  moves : (t : ℕ) (a : Answered) → move_at t w a ≡ cond (concerns_at t w) (cond (committed a) (Chooses (view_server w)) Rests) Rests
 
 alone_listens : (p s : ℕ) → Listener (AtSlot p s Alone)
 alone_listens p s = record { notes = λ g σ a. refl; outs = λ f a. refl; offs = λ f. refl; moves = λ t a. refl }
@@ -44,7 +43,7 @@ store_listens : (p s d : ℕ) → Listener (AtSlot p s (Stores d))
 store_listens p s d = record { notes = λ g σ a. refl; outs = λ f a. refl; offs = λ f. refl; moves = λ t a. refl }
 
 -- the move of such a view, at a slot that it concerns
-abbrev chosen_by : View → Answer → Move
+abbrev chosen_by : View → Answered → Move
 chosen_by w a = cond (committed a) (Chooses (view_server w)) Rests
 
 module _ (c : Config) (off : ℕ) (g : Ghost) (σ : Slot) where
@@ -54,13 +53,13 @@ module _ (c : Config) (off : ℕ) (g : Ghost) (σ : Slot) where
       → ((q : ℕ) → offers (after σ st x) q ≡ offers_after (offers σ) st x q)
       → Moves g σ (chosen_by (view_of st) (answer_by x)) (output_in (chosen_by (view_of st) (answer_by x)) (answer_by x)) (noted g σ st x) (after σ st x)
   unfolding noted after outputs_after offers_after
-  listened st l (Refused n) e inv outs offs = rests g σ
-  listened st l (Accepted v a) e inv outs offs =
+  listened st l (Err n) e inv outs offs = rests g σ
+  listened st l (Ok (v, a)) e inv outs offs =
       let p = view_server (view_of st) in
       rw (l.notes g σ a)
-      (listens c g σ (after σ st (Accepted v a)) p (σ p).own.mbal a
+      (listens c g σ (after σ st (Ok (v, a))) p (σ p).own.mbal a
       (rw (l.notes g σ a) at inv)
-      (λ k. none_before c off σ st (ap word_of e ∙ eqb-true (code_of a) 3 k))
+      (λ k. none_before c off σ st (ap word_of e ∙ eqb-true (code_of (Ok a)) 3 k))
       (λ q. outs q ∙ ap (λ (f : ℕ → ℕ). f q) (l.outs (outputs σ) a))
       (λ q. offs q ∙ ap (λ (f : ℕ → ℕ). f q) (l.offs (offers σ))))
 

@@ -1,9 +1,9 @@
 -- What a run is made of (SPEC, "The one-value machine"): calls on a room, each with its answer.
-use Rattle.std.specs.Prelude.{ℕ, List, [], ◌∷◌}
-use Rattle.state.specs.declared.Answer.{Answer}
+use Rattle.std.specs.Prelude.{ℕ, List, [], ◌∷◌, Result}
+use Rattle.checks.specs.declared.Refusal.{Refusal}
 use Rattle.state.specs.declared.Step.{Step}
 use Rattle.state.specs.declared.Step.TheVariants.{Offer}
-use Rattle.free_slots.specs.declared.asking.Asking.{Asking}
+use Rattle.state.specs.Answers.{Answered}
 use Rattle.room.specs.Step.{answered, stepped}
 use Rattle.free_slots.specs.Ask.{asked}
 use Rattle.free_slots.specs.Put.{put_answered, put_cells}
@@ -16,9 +16,9 @@ pub data Call : Type 0 where
 
 -- a call with its answer
 pub data Event : Type 0 where
-  Took : Step → Answer → Event
-  Asked : (p : ℕ) → Asking → Event
-  Put : (p s v : ℕ) → Answer → Event
+  Took : Step → Answered → Event
+  Asked : (p : ℕ) → Result ℕ Refusal → Event
+  Put : (p s v : ℕ) → Answered → Event
 
 -- the event of a call on these cells
 abbrev pub event_of : List ℕ → Call → Event
@@ -34,7 +34,7 @@ called cells (Puts p s v) = put_cells cells p s v
 
 -- What an event counts as in all that is told of a run, where f tells it of a step and its answer: a Put counts as an
 -- Offer, an Ask as nothing.
-abbrev pub as_step : {A : Type 0} → (Step → Answer → A) → A → Event → A
+abbrev pub as_step : {A : Type 0} → (Step → Answered → A) → A → Event → A
 as_step f none (Took st a) = f st a
 as_step f none (Asked p a) = none
 as_step f none (Put p s v a) = f (Offer p s v) a

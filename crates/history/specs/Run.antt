@@ -2,10 +2,9 @@
 -- read off this list, never off the cells; what it says of outputs is compared with them at the end.
 use Rattle.std.specs.Prelude.{ℕ, Bool, not, cond, ◌≡◌, eqb}
 use mathlib.Core.List.{List, [], ◌∷◌, Memᴰ}
-use Rattle.state.specs.declared.Answer.{Answer}
 use Rattle.state.specs.declared.Sizes.{Sizes}
 use Rattle.state.specs.declared.Step.{Step}
-use Rattle.state.specs.Answers.{code_of, number_of}
+use Rattle.state.specs.Answers.{Answered, code_of, number_of}
 use Rattle.state.specs.Server.{output_of}
 use Rattle.state.specs.View.{Deed, Brings, Stores, Alone, View, AtSlot, AtServer, AtDrive, view_of}
 use Rattle.layout.specs.Cells.{server_of}
@@ -27,10 +26,10 @@ Always P cells [] = P cells
 Always P cells (c ∷ cs) = P cells × Always P (called cells c) cs
 
 -- the words of an answer
-abbrev pub accepted : Answer → Bool
+abbrev pub accepted : Answered → Bool
 accepted a = not (eqb (code_of a) 4)
 
-abbrev pub committed : Answer → Bool
+abbrev pub committed : Answered → Bool
 committed a = eqb (code_of a) 3
 
 -- the move of a slot's machine
@@ -42,17 +41,17 @@ pub data Move : Type 0 where
 
 -- The move that a step with this answer makes. A Choose is read off the answer, not off the kind: a Finish that
 -- commits and a Read that learns are answered so, and nothing else.
-abbrev pub deed_move : ℕ → Deed → Answer → Move
+abbrev pub deed_move : ℕ → Deed → Answered → Move
 deed_move p (Brings c) a = cond (accepted a) (Offers p c) Rests
 deed_move p (Stores d) a = cond (committed a) (Chooses p) Rests
 deed_move p Alone a = cond (committed a) (Chooses p) Rests
 
-abbrev pub move_at : ℕ → View → Answer → Move
+abbrev pub move_at : ℕ → View → Answered → Move
 move_at t (AtSlot p s k) a = cond (eqb s t) (deed_move p k a) Rests
 move_at t (AtServer p) a = cond (accepted a) (Fails p) Rests
 move_at t (AtDrive d on) a = Rests
 
-unfoldable pub move_of : ℕ → Step → Answer → Move
+unfoldable pub move_of : ℕ → Step → Answered → Move
 move_of t st a = move_at t (view_of st) a
 
 -- the move of an event
@@ -60,7 +59,7 @@ abbrev pub move_in : ℕ → Event → Move
 move_in t e = as_step (move_of t) Rests e
 
 -- the command with which an answer committed, by the move; 0 where it did not
-abbrev pub output_in : Move → Answer → ℕ
+abbrev pub output_in : Move → Answered → ℕ
 output_in (Offers p v) a = 0
 output_in (Chooses p) a = number_of a
 output_in (Fails p) a = 0

@@ -8,15 +8,15 @@ use native.Mathlib.Omega.{arith}
 use borrow.Author.Tests.{ltb-true, leb-true, not-true}
 use lib.ListN.{length, get_or}
 use Rattle.state.specs.declared.Step.{Step}
-use Rattle.checks.specs.Refusals.{refusals_of, lowest}
+use Rattle.std.specs.Prelude.{Ok, Err}
+use Rattle.checks.specs.declared.Refusal.{Refusal}
+use Rattle.checks.specs.declared.Refusal.TheVariants.{CutShort, Malformed}
+use Rattle.checks.specs.Refusals.{refusal_in, refusals_of, lowest}
 use Rattle.checks.proofs.CheckLaws.{must_cases}
 use Rattle.checks.proofs.LowestLaws.{first_applies}
-use Rattle.record.specs.Answers.{read_refusal}
 use Rattle.record.specs.Fields.{mask_of, fields_of, step_of, with_values}
 use Rattle.record.specs.Map.{widths, record_length, unknown, malformed, asks_more, zero_among}
-use Rattle.record.specs.Read.{read_checks, reading_of, values_at}
-use Rattle.record.specs.declared.Reading.TheVariants.{Decoded, Refused}
-use Rattle.record.specs.declared.Reading.{Reading}
+use Rattle.record.specs.Read.{Reading, read_checks, reading_of, values_at}
 use Rattle.lemmas.proofs.Tests.{neither_left, neither_right}
 use Rattle.record.proofs.Marks.{asked-length, values_mark, values_keep}
 use Rattle.record.proofs.Steps.{kind_length, fields_step}
@@ -33,19 +33,20 @@ pub record Accepted (bytes : List ℕ) (step : Step) (used : ℕ) : Type 0 where
   pub used_is : record_length (get_or bytes 0 0) ≡ used
 
 pub accepted : (bytes : List ℕ) {step : Step} {used : ℕ}
-    → reading_of bytes ≡ Decoded step used → Accepted bytes step used
+    → reading_of bytes ≡ Ok (step, used) → Accepted bytes step used
 unfolding reading_of read_checks malformed
 accepted bytes {step} {used} =
     let m = get_or bytes 0 0 in
     let kind = get_or bytes 1 0 in
-    let P : Reading → Type 0 = λ a. a ≡ Decoded step used → Accepted bytes step used in
-    let stop : (n : ℕ) → P (Refused n) = λ n e. let none : ◌≡◌ {A = ℕ} 0 1 = cc in absurd (omega arith) in
-    must_cases Refused P _ 14 _ (stop 14) (λ some.
-    must_cases Refused P _ 15 _ (stop 15) (λ small.
-    must_cases Refused P _ 14 _ (stop 14) (λ two.
-    must_cases Refused P _ 15 _ (stop 15) (λ fair.
-    must_cases Refused P _ 14 _ (stop 14) (λ enough.
-    must_cases Refused P _ 15 _ (stop 15) (λ none_zero read.
+    let P : Reading → Type 0 = λ a. a ≡ Ok (step, used) → Accepted bytes step used in
+    let stop : (n : Refusal) → P (Err n) = λ n e. let none : ◌≡◌ {A = ℕ} 0 1 = cc in absurd (omega arith) in
+    must_cases P _ CutShort _ (stop CutShort) (λ some.
+    must_cases P _ Malformed _ (stop Malformed) (λ small.
+    must_cases P _ CutShort _ (stop CutShort) (λ two.
+    must_cases P _ Malformed _ (stop Malformed) (λ fair.
+    must_cases P _ CutShort _ (stop CutShort) (λ enough.
+    must_cases P _ Malformed _ (stop Malformed) (λ none_zero read.
+    let same : ◌≡◌ {A = Step × ℕ} (step_of (with_values kind (values_at widths m bytes 2)), record_length m) (step, used) = cc in
     record {
       small = ltb-true m 32 small;
       two = leb-true 2 (length bytes) two;
@@ -53,12 +54,12 @@ accepted bytes {step} {used} =
       asks = neither_right (unknown kind) (asks_more widths m (mask_of kind)) (not-true _ fair);
       enough = leb-true (record_length m) (length bytes) enough;
       none_zero = not-true _ none_zero;
-      step_is = cc;
-      used_is = cc;
+      step_is = ap (λ (r : Step × ℕ). r.0) same;
+      used_is = ap (λ (r : Step × ℕ). r.1) same;
     }))))))
 
 -- the fields of the step that was read are those in the bytes
-pub fields_read_lem : (bytes : List ℕ) {step : Step} {used : ℕ} → reading_of bytes ≡ Decoded step used
+pub fields_read_lem : (bytes : List ℕ) {step : Step} {used : ℕ} → reading_of bytes ≡ Ok (step, used)
     → fields_of step ≡ with_values (get_or bytes 1 0) (values_at widths (get_or bytes 0 0) bytes 2)
 unfolding values_at
 fields_read_lem bytes read =
@@ -75,7 +76,7 @@ pub record Used (bytes : List ℕ) (used : ℕ) : Type 0 where
   pub most : used ≤ 8
   pub within : used ≤ length bytes
 
-pub used_bounds : (bytes : List ℕ) {step : Step} {used : ℕ} → reading_of bytes ≡ Decoded step used → Used bytes used
+pub used_bounds : (bytes : List ℕ) {step : Step} {used : ℕ} → reading_of bytes ≡ Ok (step, used) → Used bytes used
 unfolding record_length
 used_bounds bytes {step} {used} read =
     let h = accepted bytes read in
@@ -87,23 +88,23 @@ used_bounds bytes {step} {used} read =
     record { least = omega arith; most = omega arith; within = omega arith }
 
 -- reading answers the number of the first check that is not passed, and 0 where all are
-pub read_first : (bytes : List ℕ) → read_refusal (reading_of bytes) ≡ lowest (refusals_of (read_checks bytes))
+pub read_first : (bytes : List ℕ) → refusal_in (reading_of bytes) ≡ lowest (refusals_of (read_checks bytes))
 unfolding reading_of read_checks
-read_first bytes = first_applies Refused read_refusal (λ n. refl) (read_checks bytes) refl
+read_first bytes = first_applies (read_checks bytes)
 
 -- a number that reading can give: 0 with a step, 14 or 15
 abbrev pub ReadNumber : ℕ → Type 0
 ReadNumber n = (n ≡ 0) ⊎ ((n ≡ 14) ⊎ (n ≡ 15))
 
-pub read_number : (bytes : List ℕ) → ReadNumber (read_refusal (reading_of bytes))
+pub read_number : (bytes : List ℕ) → ReadNumber (refusal_in (reading_of bytes))
 unfolding reading_of read_checks
 read_number bytes =
-    let P : Reading → Type 0 = λ a. ReadNumber (read_refusal a) in
+    let P : Reading → Type 0 = λ a. ReadNumber (refusal_in a) in
     let cut_short : ReadNumber 14 = inr (inl refl) in
     let bad : ReadNumber 15 = inr (inr refl) in
-    must_cases Refused P _ 14 _ cut_short (λ some.
-    must_cases Refused P _ 15 _ bad (λ small.
-    must_cases Refused P _ 14 _ cut_short (λ two.
-    must_cases Refused P _ 15 _ bad (λ fair.
-    must_cases Refused P _ 14 _ cut_short (λ enough.
-    must_cases Refused P _ 15 _ bad (λ none_zero. inl refl))))))
+    must_cases P _ CutShort _ cut_short (λ some.
+    must_cases P _ Malformed _ bad (λ small.
+    must_cases P _ CutShort _ cut_short (λ two.
+    must_cases P _ Malformed _ bad (λ fair.
+    must_cases P _ CutShort _ cut_short (λ enough.
+    must_cases P _ Malformed _ bad (λ none_zero. inl refl))))))

@@ -8,8 +8,7 @@ use lib.Dec.{lit<}
 use lib.ListN.{length, get_or, take, drop, set}
 use lib.Seq.{drop-cons, get_or-drop, sets, sets-eq}
 use Rattle.record.specs.Read.{low_number, Bytes}
-use Rattle.record.specs.Write.{low_first, written_by}
-use Rattle.record.specs.declared.Writing.{Writing}
+use Rattle.record.specs.Write.{Writing, low_first, written_by}
 
 -- the number of the bytes from a place on: the first byte, and 256 times the number from the next place on
 pub low_more : (s : List ℕ) (at next w : ℕ) → at < length s → next ≡ suc at

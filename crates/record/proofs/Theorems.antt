@@ -7,16 +7,15 @@ use native.Mathlib.Omega.{arith}
 use borrow.Author.Tests.{le-leb, lt-ltb}
 use lib.ListN.{length, get_or, take, drop, length-append}
 use Rattle.state.specs.declared.Step.{Step}
+use Rattle.std.specs.Prelude.{Ok, Err}
+use Rattle.checks.specs.declared.Refusal.TheVariants.{WrongLength, CutShort, Malformed}
+use Rattle.checks.specs.Refusals.{refusal_in}
 use Rattle.checks.proofs.CheckLaws.{passes, must_cases}
-use Rattle.record.specs.Answers.{Reads, write_refusal, write_length}
+use Rattle.record.specs.Answers.{Reads, write_length}
 use Rattle.record.specs.Fields.{mask_of, fields_of, step_of, values_of, with_values, StepFits}
 use Rattle.record.specs.Map.{widths, map_of, record_length, fields_length, unknown, malformed, asks_more, zero_among}
-use Rattle.record.specs.Read.{read_checks, reading_of, values_at, Bytes}
-use Rattle.record.specs.Write.{record_of, record_of_fields, bytes_of, field_bytes, write_checks, storing, writing_of, written_by, stored, written_of}
-use Rattle.record.specs.declared.Reading.TheVariants as reading
-use Rattle.record.specs.declared.Reading.{Reading}
-use Rattle.record.specs.declared.Writing.TheVariants as writing
-use Rattle.record.specs.declared.Writing.{Writing}
+use Rattle.record.specs.Read.{Reading, read_checks, reading_of, values_at, Bytes}
+use Rattle.record.specs.Write.{Writing, record_of, record_of_fields, bytes_of, field_bytes, write_checks, storing, writing_of, written_by, stored, written_of}
 use Rattle.record.specs.declared.fields.Fields.{Fields}
 use Rattle.record.proofs.Accepted.{accepted, fields_read_lem, Used, used_bounds}
 use Rattle.record.proofs.MapLaws.{map_small, fields-length, bytes-length}
@@ -26,7 +25,7 @@ use Rattle.record.proofs.Steps.{step_fields, kind_known, step_keeps, step_fit, k
 -- fields that fit, of a known kind, with 0 in every field that the kind lacks
 read_fields : (f : Fields) (rest : List ℕ)
     → Fit widths (values_of f) → Keeps (mask_of f.kind) (values_of f) → unknown f.kind ≡ false
-    → reading_of (record_of_fields f ++ rest) ≡ reading.Decoded (step_of f) (length (record_of_fields f))
+    → reading_of (record_of_fields f ++ rest) ≡ Ok (step_of f, length (record_of_fields f))
 unfolding reading_of read_checks record_of_fields bytes_of malformed record_length
 read_fields f rest fit keeps known =
     let vs = values_of f in
@@ -40,28 +39,28 @@ read_fields f rest fit keeps known =
     let enough : record_length m ≤ length s = omega arith in
     let fair : malformed m f.kind ≡ false =
     ap (λ (b : Bool). b || asks_more widths m mask) known ∙ asks_no_more widths vs mask refl in
-    passes reading.Refused _ 14 _ (le-leb 1 (length s) (omega arith))
-    ∙ passes reading.Refused _ 15 _ (lt-ltb m 32 (map_small mask vs))
-    ∙ passes reading.Refused _ 14 _ (le-leb 2 (length s) (omega arith))
-    ∙ passes reading.Refused _ 15 _ (ap not fair)
-    ∙ passes reading.Refused _ 14 _ (le-leb (record_length m) (length s) enough)
-    ∙ passes reading.Refused _ 15 _ (ap not (ap (zero_among m) values ∙ none_zero m vs marks))
-    ∙ ap₂ reading.Decoded (ap (λ (l : List ℕ). step_of (with_values f.kind l)) values) (omega arith)
+    passes _ CutShort _ (le-leb 1 (length s) (omega arith))
+    ∙ passes _ Malformed _ (lt-ltb m 32 (map_small mask vs))
+    ∙ passes _ CutShort _ (le-leb 2 (length s) (omega arith))
+    ∙ passes _ Malformed _ (ap not fair)
+    ∙ passes _ CutShort _ (le-leb (record_length m) (length s) enough)
+    ∙ passes _ Malformed _ (ap not (ap (zero_among m) values ∙ none_zero m vs marks))
+    ∙ ap₂ (λ (x : Step) (y : ℕ). Ok (x, y)) (ap (λ (l : List ℕ). step_of (with_values f.kind l)) values) (omega arith)
 
 back : (step : Step) (rest : List ℕ) → StepFits step
-    → reading_of (record_of step ++ rest) ≡ reading.Decoded step (length (record_of step))
+    → reading_of (record_of step ++ rest) ≡ Ok (step, length (record_of step))
 unfolding record_of
 back step rest fits =
     read_fields (fields_of step) rest (step_fit fits) (step_keeps step) (kind_known step)
-    ∙ ap (λ (st : Step). reading.Decoded st (length (record_of_fields (fields_of step)))) (step_fields step)
+    ∙ ap (λ (st : Step). Ok (st, length (record_of_fields (fields_of step)))) (step_fields step)
 
 -- an answer as its case, and by what it says
-is_reads : {r : Reading} {step : Step} {used : ℕ} → r ≡ reading.Decoded step used → Reads r step used
+is_reads : {r : Reading} {step : Step} {used : ℕ} → r ≡ Ok (step, used) → Reads r step used
 is_reads {step = step} {used} e = subst (λ (x : Reading). Reads x step used) (sym e) (refl, refl)
 
-reads_is : (r : Reading) {step : Step} {used : ℕ} → Reads r step used → r ≡ reading.Decoded step used
-reads_is (reading.Decoded step used) h = ap₂ reading.Decoded h.0 h.1
-reads_is (reading.Refused number) h = absurd h
+reads_is : (r : Reading) {step : Step} {used : ℕ} → Reads r step used → r ≡ Ok (step, used)
+reads_is (Ok (step, used)) h = ap₂ (λ (x : Step) (y : ℕ). Ok (x, y)) h.0 h.1
+reads_is (Err n) h = absurd h
 
 -- What is written reads back as the step with the length used, whatever bytes follow.
 pub read_back : (step : Step) (rest : List ℕ) → StepFits step
@@ -119,7 +118,8 @@ pub one_step : (a b : Step) → StepFits a → StepFits b → record_of a ≡ re
 one_step a b fa fb same =
     let ra = back a [] fa in
     let rb = back b [] fb in
-    cc
+    let read : ◌≡◌ {A = Step × ℕ} (a, length (record_of a)) (b, length (record_of b)) = cc in
+    ap (λ (r : Step × ℕ). r.0) read
 
 -- No record is a proper beginning of another.
 pub no_beginning : (a b : Step) (more : List ℕ) → StepFits a → StepFits b → record_of b ≡ record_of a ++ more → more ≡ []
@@ -127,7 +127,8 @@ no_beginning a b more fa fb e =
     let ra = back a more fa in
     let rb = back b [] fb in
     let nil = append-nil (record_of b) in
-    let same : length (record_of a) ≡ length (record_of b) = cc in
+    let read : ◌≡◌ {A = Step × ℕ} (a, length (record_of a)) (b, length (record_of b)) = cc in
+    let same : length (record_of a) ≡ length (record_of b) = ap (λ (r : Step × ℕ). r.1) read in
     let long = length-append (record_of a) more in
     empty more (omega (arith, ap length e))
   where
@@ -136,13 +137,13 @@ no_beginning a b more fa fb e =
     empty (x ∷ l) h = absurd (omega arith)
 
 -- What a call of write leaves, where it is not refused, reads back with the length that it answered.
-pub write_then_read : (step : Step) (buffer : List ℕ) → StepFits step → write_refusal (writing_of step buffer) ≡ 0
+pub write_then_read : (step : Step) (buffer : List ℕ) → StepFits step → refusal_in (writing_of step buffer) ≡ 0
     → Reads (reading_of (written_of step buffer)) step (write_length (writing_of step buffer))
 unfolding storing write_checks writing_of stored written_of
 write_then_read step buffer fits =
     let P : Writing → Type 0 =
-    λ w. write_refusal w ≡ 0 → Reads (reading_of (written_by w (record_of step) buffer)) step (write_length w) in
-    must_cases writing.Refused P _ 2 _
+    λ w. refusal_in w ≡ 0 → Reads (reading_of (written_by w (record_of step) buffer)) step (write_length w) in
+    must_cases P _ WrongLength _
     (λ refused. absurd (omega arith))
     (λ long wrote. read_back step (drop (length (record_of step)) buffer) fits)
 

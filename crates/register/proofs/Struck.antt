@@ -6,8 +6,9 @@ use mathlib.Core.List.{List}
 use native.Mathlib.Omega.{arith}
 use lib.ListN.{get_or, take, drop}
 use lib.Seq.{take-add}
+use Rattle.checks.specs.Refusals.{refusal_in}
 use Rattle.state.specs.declared.Sizes.{Sizes}
-use Rattle.room.specs.Open.{open_refusal, opening, opened}
+use Rattle.room.specs.Open.{opening, opened}
 use Rattle.history.specs.Calls.{Call}
 use Rattle.history.specs.Run.{history, Always}
 use Rattle.history.proofs.Always.{always_map}
@@ -41,7 +42,7 @@ stays z commands room other a b p q h l out lent exact whole less piece e =
 
 -- from a room just opened, for every list of calls
 pub never_again
-    : (z : Sizes) (row : List ℕ) → open_refusal (opening z row) ≡ 0 → (calls : List Call) → NeverAgain z (opened z row) calls
+    : (z : Sizes) (row : List ℕ) → refusal_in (opening z row) ≡ 0 → (calls : List Call) → NeverAgain z (opened z row) calls
 never_again z row e calls =
     let cells = opened z row in
     let Show : List ℕ → Type 0 = AllShow z (commands_of z (history cells calls)) in

@@ -4,13 +4,15 @@ use mathlib.Core.Path.{◌≡◌, refl, ◌∙◌, sym, ap, subst}
 use mathlib.Core.List.{List}
 use native.Mathlib.Omega.{arith}
 use lib.ListN.{length, take, length-take}
+use Rattle.checks.specs.Refusals.{refusal_in}
+use Rattle.std.specs.Prelude.{Ok}
 use Rattle.state.specs.declared.Sizes.{Sizes}
 use Rattle.synod.proofs.Machine.{blank_slot}
 use Rattle.synod.proofs.Past.{no_ghost}
 use Rattle.layout.specs.Places.{Fit}
 use Rattle.layout.proofs.PlaceLaws.{fit_of}
 use Rattle.layout.specs.Cells.{limits_of}
-use Rattle.room.specs.Open.{open_refusal, opening, opened, opened_cells}
+use Rattle.room.specs.Open.{opening, opened, opened_cells}
 use Rattle.room.proofs.OpenLaws.{accepted}
 use Rattle.history.specs.Calls.{Call}
 use Rattle.history.specs.Run.{history, first_output}
@@ -20,8 +22,7 @@ use Rattle.history.proofs.Runs.{follows, offered_earlier, all_commit, commits_ou
 use Rattle.catalogue.specs.Fold.{folded, start}
 use Rattle.catalogue.specs.Outputs.{output_at, leading, outputs_of}
 use Rattle.catalogue.specs.Call.{entries_of, counted}
-use Rattle.catalogue.specs.Listing.{catalogue_refusal, taken_of, skipped_of}
-use Rattle.catalogue.specs.declared.Listing.TheVariants.{Counted}
+use Rattle.catalogue.specs.Listing.{counts, taken_of, skipped_of}
 use Rattle.catalogue.proofs.OutputLaws.{leading_prefix}
 use Rattle.catalogue.proofs.CallLaws.{accepts}
 use Rattle.register.specs.OneHistory.{commands_of, AllShow, OneHistory}
@@ -44,13 +45,13 @@ module _ (z : Sizes) (first : ℕ → ℕ) (room : List ℕ) (s : Shown z first 
       let k = length (outputs_of z room p) in
       let answer =
       sym call.0
-      ∙ ap (λ (y : Sizes). counted y room p) same
-      ∙ ap (λ (l : List ℕ). Counted k (folded start l).skipped) prefix in
+      ∙ ap (λ (y : Sizes). Ok (counted y room p)) same
+      ∙ ap (λ (l : List ℕ). Ok (counts k (folded start l).skipped)) prefix in
       record {
         k = k;
         some = let n = ap length prefix ∙ length-take k list in omega arith;
         takes = prefix;
-        accepted = ap catalogue_refusal answer;
+        accepted = ap refusal_in answer;
         taken = ap taken_of answer;
         skipped = ap skipped_of answer;
         cells =
@@ -77,7 +78,7 @@ from_opened z fit calls =
 
 -- DEMAND 3
 pub one_history
-    : (z : Sizes) (row : List ℕ) → open_refusal (opening z row) ≡ 0 → (calls : List Call) → OneHistory z (opened z row) calls
+    : (z : Sizes) (row : List ℕ) → refusal_in (opening z row) ≡ 0 → (calls : List Call) → OneHistory z (opened z row) calls
 one_history z row e calls =
     let o = accepted z row e in
     subst (λ (cells : List ℕ). OneHistory z cells calls) (sym o.room) (from_opened z (fit_of z o.fits) calls)

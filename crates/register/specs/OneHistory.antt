@@ -1,5 +1,6 @@
 -- One history (SPEC, "The one-value machine", "The catalogue"): demand 3 of 01, as one claim about a whole list of calls.
 use Rattle.std.specs.Prelude.{ℕ, ◌<◌, ◌≤◌, List, [], ◌≡◌, length, take}
+use Rattle.checks.specs.Refusals.{refusal_in}
 use Rattle.state.specs.declared.Sizes.{Sizes}
 use Rattle.history.specs.Calls.{Call, Event}
 use Rattle.history.specs.Run.{history, Always, first_output, OfferedEarlier, AllCommit, CommitsOutput}
@@ -7,7 +8,7 @@ use Rattle.history.specs.Machine.{at_first, Follows}
 use Rattle.catalogue.specs.Fold.{pieces, folded, start}
 use Rattle.catalogue.specs.Outputs.{leading, outputs_of}
 use Rattle.catalogue.specs.Call.{catalogue_of, catalogue_cells}
-use Rattle.catalogue.specs.Listing.{catalogue_refusal, taken_of, skipped_of}
+use Rattle.catalogue.specs.Listing.{taken_of, skipped_of}
 
 -- the run's list of commands: slot by slot the command of the first committed answer, up to a slot without one
 unfoldable pub commands_of : Sizes → List Event → List ℕ
@@ -19,7 +20,7 @@ pub record Shows (z : Sizes) (commands room : List ℕ) (p : ℕ) (out : List �
   pub k : ℕ
   pub some : k ≤ length commands
   pub takes : outputs_of z room p ≡ take k commands
-  pub accepted : catalogue_refusal (catalogue_of room p out) ≡ 0
+  pub accepted : refusal_in (catalogue_of room p out) ≡ 0
   pub taken : taken_of (catalogue_of room p out) ≡ k
   pub skipped : skipped_of (catalogue_of room p out) ≡ (folded start (take k commands)).skipped
   pub cells : catalogue_cells room p out ≡ (folded start (take k commands)).cells

@@ -4,13 +4,12 @@
 // in specs/OneHistory.antt and proofs/Theorem.antt.
 #![tactic(auto)]
 
-pub use catalogue::{Listing, PIECES, STRUCK, catalogue, entered};
-pub use free_slots::asking::{Asking, ask};
+pub use catalogue::{Counts, PIECES, STRUCK, catalogue, entered};
+pub use checks::Refusal;
+pub use free_slots::asking::ask;
 pub use free_slots::putting::put;
 pub use layout::{block_place, length_of, server_place};
-pub use record::{
-    Fields, Found, Reading, Writing, read_fields, read_record, write_fields, write_record,
-};
-pub use room::opening::{Opening, open};
+pub use record::{Fields, read_fields, read_record, write_fields, write_record};
+pub use room::opening::open;
 pub use room::stepping::step;
 pub use state::{Answer, Sizes, Step};

@@ -3,10 +3,10 @@ use Prim.Native.Nat.{ℕ, ◌+◌, ◌*◌, ◌/◌, ◌%◌, ◌<◌, ◌≤◌
 use mathlib.Core.List.{List}
 use mathlib.Core.Path.{◌≡◌, subst⁻¹}
 use native.Mathlib.Omega.{arith}
+use Rattle.checks.specs.Refusals.{refusal_in}
 use Rattle.range.proofs.Laws.{range_says}
-use Rattle.catalogue.specs.declared.Listing.{Listing}
 use Rattle.catalogue.specs.Call.{catalogue_of}
-use Rattle.catalogue.specs.Listing.{catalogue_refusal, taken_of, skipped_of}
+use Rattle.catalogue.specs.Listing.{taken_of, skipped_of}
 use Rattle.catalogue.proofs.AnswerLaws.{accepted_is, accepted_says}
 use Rattle.register_c.specs.Packing.{packed, packed_listing}
 
@@ -33,7 +33,7 @@ few taken skipped a b = record { word = omega arith; upper = omega arith; lower 
 
 pub counts_back
     : (room : List ℕ) (server : ℕ) (out : List ℕ)
-    → catalogue_refusal (catalogue_of room server out) ≡ 0
+    → refusal_in (catalogue_of room server out) ≡ 0
     → Counts (taken_of (catalogue_of room server out)) (skipped_of (catalogue_of room server out))
     (packed_listing (catalogue_of room server out))
 counts_back room server out e =
@@ -42,6 +42,6 @@ counts_back room server out e =
     let fit = (range_says room a.range).row.fit in
     let slots = fit.slots in
     let most = a.at_most_slots in
-    subst⁻¹ (λ (l : Listing). Counts (taken_of answer) (skipped_of answer) (packed_listing l))
+    subst⁻¹ (λ l. Counts (taken_of answer) (skipped_of answer) (packed_listing l))
     (accepted_is room server out e)
     (few (taken_of answer) (skipped_of answer) (omega arith) a.at_most_taken)

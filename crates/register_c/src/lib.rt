@@ -6,17 +6,18 @@
 ghost use Rattle.std.specs.Prelude.{◌≡◌, length};
 ghost use Rattle.state.specs.Sizes.{sizes};
 ghost use Rattle.layout.specs.Places.{length_of, server_place, block_place};
-ghost use Rattle.room.specs.Open.{open_refusal, opening, opened};
+ghost use Rattle.checks.specs.Refusals.{refusal_in};
+ghost use Rattle.room.specs.Open.{opening, opened};
 ghost use Rattle.free_slots.specs.Ask.{asked};
 ghost use Rattle.free_slots.specs.Put.{put_answered, put_cells};
 ghost use Rattle.record.specs.Fields.{fields};
 ghost use Rattle.record.specs.Read.{reading_of};
 ghost use Rattle.record.specs.Write.{writing_from, written_from};
 ghost use Rattle.catalogue.specs.Call.{catalogue_of, catalogue_cells};
-ghost use Rattle.register_c.specs.Packing.{packed, packed_answer, packed_asking, packed_listing, packed_reading, packed_writing};
+ghost use Rattle.register_c.specs.Packing.{packed, packed_by, packed_answer, packed_number, packed_listing, packed_reading};
 ghost use Rattle.register_c.specs.Calls.{record_answered, record_stepped, field_cells, fields_reading, fields_read};
 
-use register::{Asking, Fields, Found, Listing, Opening, Reading, Writing};
+use register::{Fields, Refusal};
 use state::{Answer, Sizes};
 
 // The word of a refusal.
@@ -77,12 +78,12 @@ pub extern "C" fn register_block_at(
 // Makes the row a new room: 0, or the refusal's number.
 #[unsafe(no_mangle)]
 pub extern "C" fn register_open(row: &mut [u32], servers: u32, drives: u32, slots: u32) -> u32
-    ensures { (result ≡ open_refusal (opening (sizes servers drives slots) row.old))
+    ensures { (result ≡ refusal_in (opening (sizes servers drives slots) row.old))
         × (row.new ≡ opened (sizes servers drives slots) row.old) }
 {
     match register::open(row, servers, drives, slots) {
-        Opening::Opened => 0,
-        Opening::Refused(number) => number,
+        Ok(()) => 0,
+        Err(refusal) => refusal.number(),
     }
 }
 
@@ -93,20 +94,17 @@ pub extern "C" fn register_step(room: &mut [u32], bytes: &[u8]) -> u64
         × (room.new ≡ record_stepped room.old (reading_of bytes.now)) }
 {
     match register::read_record(bytes) {
-        Reading::Decoded(step, _) => answer_word(register::step(room, step)),
-        Reading::Refused(number) => pack(REFUSED, number),
+        Ok((step, _)) => answer_word(register::step(room, step)),
+        Err(refusal) => answer_word(Err(refusal)),
     }
 }
 
 // The lowest slot that is free for a server, or the refusal.
 #[unsafe(no_mangle)]
 pub extern "C" fn register_ask(room: &[u32], server: u32) -> u64
-    ensures { result ≡ packed_asking (asked room.now server) }
+    ensures { result ≡ packed_number (asked room.now server) }
 {
-    match register::ask(room, server) {
-        Asking::Free(slot) => slot as u64,
-        Asking::Refused(number) => pack(REFUSED, number),
-    }
+    word(register::ask(room, server).map(|slot| slot as u64))
 }
 
 // Offers a command in a slot that is free for the server.
@@ -124,10 +122,8 @@ pub extern "C" fn register_catalogue(room: &[u32], server: u32, cells: &mut [u32
     ensures { (result ≡ packed_listing (catalogue_of room.now server cells.old))
         × (cells.new ≡ catalogue_cells room.now server cells.old) }
 {
-    match register::catalogue(room, server, cells) {
-        Listing::Counted { taken, skipped } => (taken as u64) * 256 + (skipped as u64),
-        Listing::Refused(number) => pack(REFUSED, number),
-    }
+    let counts = register::catalogue(room, server, cells);
+    word(counts.map(|c| (c.taken as u64) * 256 + (c.skipped as u64)))
 }
 
 // Reads a record and stores its kind and fields in six cells, 0 for a field that the kind lacks: the length used, or the
@@ -138,14 +134,14 @@ pub extern "C" fn register_fields(bytes: &[u8], fields: &mut [u32]) -> u64
     ensures cells { fields.new ≡ fields_read (fields_reading bytes.now fields.old) fields.old }
 {
     if fields.len() != 6 {
-        return pack(REFUSED, 2);
+        return word(Err(Refusal::WrongLength));
     }
     match register::read_fields(bytes) {
-        Found::Record(f, used) => {
+        Ok((f, used)) => {
             store_fields(fields, f);
             used as u64
         }
-        Found::Refused(number) => pack(REFUSED, number),
+        Err(refusal) => word(Err(refusal)),
     }
 }
 
@@ -154,10 +150,7 @@ pub extern "C" fn register_fields(bytes: &[u8], fields: &mut [u32]) -> u64
 pub extern "C" fn register_read(bytes: &[u8]) -> u64
     ensures { result ≡ packed_reading (reading_of bytes.now) }
 {
-    match register::read_record(bytes) {
-        Reading::Decoded(_, used) => used as u64,
-        Reading::Refused(number) => pack(REFUSED, number),
-    }
+    word(register::read_record(bytes).map(|(_, used)| used as u64))
 }
 
 // Writes the record of a step: the length used, or the refusal. A field that the kind lacks is not looked at; a kind
@@ -172,7 +165,7 @@ pub extern "C" fn register_write(
     number: u32,
     bytes: &mut [u8],
 ) -> u64
-    ensures answer { result ≡ packed_writing (writing_from (fields kind server slot drive other number) bytes.old) }
+    ensures answer { result ≡ packed_number (writing_from (fields kind server slot drive other number) bytes.old) }
     ensures bytes { bytes.new ≡ written_from (fields kind server slot drive other number) bytes.old }
 {
     let f = Fields {
@@ -183,10 +176,7 @@ pub extern "C" fn register_write(
         other,
         number,
     };
-    match register::write_fields(f, bytes) {
-        Writing::Encoded(used) => used as u64,
-        Writing::Refused(number) => pack(REFUSED, number),
-    }
+    word(register::write_fields(f, bytes).map(|used| used as u64))
 }
 
 // The kind and the fields, each in its cell.
@@ -202,10 +192,21 @@ fn store_fields(cells: &mut [u32], f: Fields)
     cells[5] = f.number;
 }
 
-fn answer_word(a: Answer) -> u64
-    ensures { result ≡ packed_answer a }
+// A step's answer: its word and its number.
+fn answer_word(answered: Result<Answer, Refusal>) -> u64
+    ensures { result ≡ packed_answer answered }
 {
-    pack(a.code(), a.number())
+    pack(state::code(answered), state::number(answered))
+}
+
+// Any other answer: the number of what was accepted, or the refusal.
+fn word(answer: Result<u64, Refusal>) -> u64
+    ensures { result ≡ packed_by (λ n. n) answer }
+{
+    match answer {
+        Ok(number) => number,
+        Err(refusal) => pack(REFUSED, refusal.number()),
+    }
 }
 
 // The word in the upper half, the number in the lower.

@@ -7,9 +7,8 @@ use lib.ListN.{length, take}
 use Rattle.std.proofs.Common.{Some, Ok, Err}
 use Rattle.std.specs.declared.result.Result.{Result}
 use Rattle.state.specs.declared.Step.{Step}
-use Rattle.state.specs.declared.Answer.{Answer}
-use Rattle.state.specs.declared.Answer.TheVariants as answer
-use Rattle.state.specs.Answers.{number_of}
+use Rattle.checks.specs.declared.Refusal.{Refusal}
+use Rattle.state.specs.Answers.{Answered, number_of}
 use Rattle.room.specs.Step.{answered, stepped}
 use Rattle.transcript.specs.Lines.{line_max, step_line, Prints}
 use Rattle.transcript.specs.declared.Transcript.{Transcript}
@@ -37,7 +36,7 @@ module _
     (g : Going records first start rest room text index) where
   -- the line of a record: the index has five digits at most, and the buffer has room
   line
-      : (text' : Transcript) (a : Answer) {i : ℕ} → i ≡ index → length records ≤ 2 * record_max
+      : (text' : Transcript) (a : Answered) {i : ℕ} → i ≡ index → length records ≤ 2 * record_max
       → HasLeft start (step_max * record_max + line_max) → number_of a < 2 ^ 32 → Prints text (step_line i a) text'
       → Adds text (step_line index a) text' step_max
   line text' a {i} at short room fits p =
@@ -70,12 +69,12 @@ module _
 
   -- a record that can't be read has a line, and is the last
   stops
-      : (n : ℕ) {rest' : List ℕ} {text' : Transcript} → script rest ≡ ended (Unread n) → script rest' ≡ ended Between
-      → most_of rest' < most_of rest → Adds text (step_line index (answer.Refused n)) text' step_max
+      : (n : Refusal) {rest' : List ℕ} {text' : Transcript} → script rest ≡ ended (Unread n) → script rest' ≡ ended Between
+      → most_of rest' < most_of rest → Adds text (step_line index (Err n)) text' step_max
       → Going records first start rest' room text' (index + 1)
   stops n {rest'} {text'} here last less a =
       let front = take text.length text.buffer.now in
-      let line = step_line index (answer.Refused n) in
+      let line = step_line index (Err n) in
       record {
         lines =
             ap (λ (s : Script). take text'.length text'.buffer.now ++ record_lines (index + 1) room s) last
@@ -99,21 +98,21 @@ module _
 
   -- the same in the code's own terms: what the iterator gave, and what was printed for it
   module _
-      {rest' room' : List ℕ} {text' : Transcript} {r : Result Step ℕ} {a : Answer} {i j : ℕ} (short : length records ≤ 2 * record_max)
+      {rest' room' : List ℕ} {text' : Transcript} {r : Result Step Refusal} {a : Answered} {i j : ℕ} (short : length records ≤ 2 * record_max)
       (wide : HasLeft start (step_max * record_max + line_max)) (less : most_of rest' < most_of rest)
       (next : NextRecord rest (Some r) rest') (at : i ≡ index) (on : j ≡ index + 1) (fits : number_of a < 2 ^ 32)
       (p : Prints text (step_line i a) text') where
     pub took : {st : Step} → r ≡ Ok st → (a ≡ answered room st) × (room' ≡ stepped room st) → Going records first start rest' room' text' j
     took {st} e s =
-        let N : Result Step ℕ → Type 0 = λ q. NextRecord rest (Some q) rest' in
-        let L : Answer → Type 0 = λ b. Adds text (step_line index b) text' step_max in
+        let N : Result Step Refusal → Type 0 = λ q. NextRecord rest (Some q) rest' in
+        let L : Answered → Type 0 = λ b. Adds text (step_line index b) text' step_max in
         let G : List ℕ → ℕ → Type 0 = λ c n. Going records first start rest' c text' n in
         subst (λ n. G room' n) (sym on) (subst (λ c. G c (index + 1)) (sym s.1) (goes_on st (subst N e next) less (subst L s.0 (line text' a at short wide fits p))))
 
-    pub told : {n : ℕ} → r ≡ Err n → a ≡ answer.Refused n → room' ≡ room → Going records first start rest' room' text' j
+    pub told : {n : Refusal} → r ≡ Err n → a ≡ Err n → room' ≡ room → Going records first start rest' room' text' j
     told {n} e s same =
-        let N : Result Step ℕ → Type 0 = λ q. NextRecord rest (Some q) rest' in
-        let L : Answer → Type 0 = λ b. Adds text (step_line index b) text' step_max in
+        let N : Result Step Refusal → Type 0 = λ q. NextRecord rest (Some q) rest' in
+        let L : Answered → Type 0 = λ b. Adds text (step_line index b) text' step_max in
         let G : List ℕ → ℕ → Type 0 = λ c n. Going records first start rest' c text' n in
         let stop = subst N e next in
         subst (λ n. G room' n) (sym on) (subst (λ c. G c (index + 1)) (sym same) (stops n stop.0 stop.1 less (subst L s (line text' a at short wide fits p))))

@@ -5,16 +5,18 @@ use mathlib.Core.Bool.{true}
 use mathlib.Core.List.{List}
 use lib.ListN.{length, take, replicate, length-replicate}
 use borrow.Author.Tests.{eq-eqb}
+use Rattle.std.specs.Prelude.{Ok}
+use Rattle.checks.specs.Refusals.{refusal_in}
 use Rattle.state.specs.declared.Sizes.{Sizes}
 use Rattle.state.specs.declared.Step.{Step}
 use Rattle.layout.specs.Places.{sizes_fit, room_length}
-use Rattle.room.specs.Open.{open_refusal, opened_cells}
+use Rattle.room.specs.Open.{opened_cells}
 use Rattle.room.proofs.OpenLaws.{opens_room}
 use Rattle.history.specs.Calls.{all_steps}
 use Rattle.history.specs.Run.{ran, history}
 use Rattle.history.proofs.Always.{at_last}
 use Rattle.catalogue.specs.Fold.{pieces, folded, start}
-use Rattle.catalogue.specs.declared.Listing.TheVariants.{Counted}
+use Rattle.catalogue.specs.Listing.{counts}
 use Rattle.catalogue.proofs.AnswerLaws.{accepted_is}
 use Rattle.register.specs.OneHistory.{commands_of, AllShow, OneHistory}
 use Rattle.register.proofs.Theorem.{one_history}
@@ -34,7 +36,7 @@ module _ (z : Sizes) (fits : sizes_fit z ≡ true) (steps : List Step) where
       let row : List ℕ = replicate (room_length z) 0 in
       let o = opens_room z row fits (eq-eqb (length row) (room_length z) (length-replicate (room_length z) 0)) in
       subst (λ (cells : List ℕ). OneHistory z cells (all_steps steps)) (sym o.leaves)
-      (one_history z row (ap open_refusal (sym o.answers)) (all_steps steps))
+      (one_history z row (ap refusal_in (sym o.answers)) (all_steps steps))
 
   pub one_list
       : (p : ℕ) → p < z.servers
@@ -45,5 +47,5 @@ module _ (z : Sizes) (fits : sizes_fit z ≡ true) (steps : List Step) where
       let all = at_last (AllShow z commands) (opened_cells z) (all_steps steps) one.catalogues in
       let s = all p h (replicate pieces 0) (length-replicate {A = ℕ} pieces 0) in
       let room = ran (opened_cells z) (all_steps steps) in
-      let counts = accepted_is room p (replicate pieces 0) s.accepted ∙ ap₂ Counted s.taken s.skipped in
-      record { k = s.k; some = s.some; line = ap (counts_line p) counts }
+      let told = accepted_is room p (replicate pieces 0) s.accepted ∙ ap₂ (λ (k n : ℕ). Ok (counts k n)) s.taken s.skipped in
+      record { k = s.k; some = s.some; line = ap (counts_line p) told }

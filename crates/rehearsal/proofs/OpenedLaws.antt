@@ -11,8 +11,10 @@ use Rattle.state.specs.declared.Sizes.{Sizes}
 use Rattle.layout.specs.Places.{sizes_fit, room_length, length_of}
 use Rattle.layout.specs.Cells.{sizes_of}
 use Rattle.layout.proofs.PlaceLaws.{fit_of}
-use Rattle.room.specs.declared.opening.Opening.TheVariants.{Opened, Refused}
-use Rattle.room.specs.Open.{open_refusal, opening, opened, opened_cells}
+use Rattle.std.specs.Prelude.{Ok, Err}
+use Rattle.checks.specs.declared.Refusal.{Refusal}
+use Rattle.checks.specs.Refusals.{refusal_number, refusal_in}
+use Rattle.room.specs.Open.{opening, opened, opened_cells}
 use Rattle.room.proofs.OpenLaws.{opens_1, opens_room, accepted}
 use Rattle.transcript.specs.Lines.{line_max, open_line, Prints}
 use Rattle.transcript.specs.declared.Transcript.{Transcript}
@@ -24,28 +26,29 @@ use Rattle.rehearsal.proofs.BufferLaws.{adds_line, adds_more, only_lines}
 
 -- a line that is the whole text
 pub only_line
-    : {start text : Transcript} (n : ℕ) → n < 2 ^ 32 → start.length ≡ 0 → text_max ≤ length start.buffer.now
-    → Prints start (open_line n) text → Holds text.buffer.now text.length (open_line n)
-only_line n fits none room p =
-    only_lines (adds_line p (omega (arith, none)) (open_max n fits) (omega arith)) none (omega arith)
+    : {start text : Transcript} {k : ℕ} (n : ℕ) → k ≡ n → n < 2 ^ 32 → start.length ≡ 0 → text_max ≤ length start.buffer.now
+    → Prints start (open_line k) text → Holds text.buffer.now text.length (open_line n)
+only_line {start} {text} n is fits none room p =
+    let q = subst (λ (m : ℕ). Prints start (open_line m) text) is p in
+    only_lines (adds_line q (omega (arith, none)) (open_max n fits) (omega arith)) none (omega arith)
 
 module _ (z : Sizes) (row : List ℕ) where
-  pub opened_fits : opening z row ≡ Opened → sizes_fit z ≡ true
-  opened_fits e = (accepted z row (ap open_refusal e)).fits
+  pub opened_fits : opening z row ≡ Ok tt → sizes_fit z ≡ true
+  opened_fits e = (accepted z row (ap refusal_in e)).fits
 
   -- the only refusal is that of the sizes
-  refused_is : {n : ℕ} → length row ≡ length_of z → opening z row ≡ Refused n → (sizes_fit z ≡ false) × (1 ≡ n)
+  refused_is : {n : Refusal} → length row ≡ length_of z → opening z row ≡ Err n → (sizes_fit z ≡ false) × (1 ≡ refusal_number n)
   refused_is {n} exact e =
       by_test (sizes_fit z)
       (λ a.
       let b = (opens_room z row a (eq-eqb (length row) (room_length z) (exact ∙ ap (λ (x : Bool). cond x (room_length z) 0) a))).answers in
       let c : ◌≡◌ {A = ℕ} 0 1 = cc in
       absurd (omega arith))
-      (λ a. let b = (opens_1 z row a).answers in (a, cc))
+      (λ a. (a, ap refusal_in ((opens_1 z row a).answers ∙ e)))
 
   -- the text of a room that was opened, and of one that was not
   pub opened_text
-      : {cells after : List ℕ} {start text : Transcript} (s : Script) → opening z row ≡ Opened → cells ≡ opened z row
+      : {cells after : List ℕ} {start text : Transcript} (s : Script) → opening z row ≡ Ok tt → cells ≡ opened z row
       → after ≡ room_after cells s
       → Adds start (record_lines 0 cells s ++ server_lines after z.servers) text (step_max * record_max + line_max * z.servers)
       → Adds start (run_text z s) text text_max
@@ -53,7 +56,7 @@ module _ (z : Sizes) (row : List ℕ) where
   opened_text {cells} {after} {start} {text} s e same then a =
       let fits = opened_fits e in
       let few = (fit_of z fits).servers in
-      let is : cells ≡ opened_cells z = same ∙ (accepted z row (ap open_refusal e)).room in
+      let is : cells ≡ opened_cells z = same ∙ (accepted z row (ap refusal_in e)).room in
       let whole = record_lines 0 (opened_cells z) s ++ server_lines (room_after (opened_cells z) s) z.servers in
       let text_is : record_lines 0 cells s ++ server_lines after z.servers ≡ run_text z s =
       ap (λ (r : List ℕ). record_lines 0 cells s ++ server_lines r z.servers) then
@@ -62,17 +65,17 @@ module _ (z : Sizes) (row : List ℕ) where
       adds_more (omega (arith, few)) (subst (λ (l : List ℕ). Adds start l text (step_max * record_max + line_max * z.servers)) text_is a)
 
   pub refused_text
-      : {start text : Transcript} {n : ℕ} (s : Script) → length row ≡ length_of z → opening z row ≡ Refused n
-      → HasLeft start text_max → Prints start (open_line n) text → Adds start (run_text z s) text text_max
+      : {start text : Transcript} {n : Refusal} {k : ℕ} (s : Script) → length row ≡ length_of z → opening z row ≡ Err n
+      → HasLeft start text_max → k ≡ refusal_number n → Prints start (open_line k) text → Adds start (run_text z s) text text_max
   unfolding run_text
-  refused_text {start} {text} {n} s exact e room p =
+  refused_text {start} {text} {n} {k} s exact e room told p =
       let is = refused_is exact e in
-      let one : 1 ≡ n = is.1 in
+      let one : 1 ≡ k = is.1 ∙ sym told in
       let whole = record_lines 0 (opened_cells z) s ++ server_lines (room_after (opened_cells z) s) z.servers in
-      let text_is : open_line n ≡ run_text z s =
+      let text_is : open_line k ≡ run_text z s =
       ap open_line (sym one) ∙ sym (ap (λ (b : Bool). cond b whole (open_line 1)) is.0) in
       subst (λ (l : List ℕ). Adds start l text text_max) text_is
-      (adds_more (omega arith) (adds_line p (omega arith) (open_max n (omega arith)) (omega arith)))
+      (adds_more (omega arith) (adds_line p (omega arith) (open_max k (omega arith)) (omega arith)))
 
 -- the text of an input that is too short, too long, or neither
 module _ (input : List ℕ) where

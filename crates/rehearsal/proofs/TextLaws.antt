@@ -6,9 +6,9 @@ use mathlib.Core.Path.{◌≡◌, refl, ◌∙◌, ap}
 use mathlib.Core.List.{List, [], ◌++◌, append_assoc}
 use lib.ListN.{length, length-append}
 use Rattle.state.specs.declared.Step.{Step}
-use Rattle.state.specs.declared.Answer.{Answer}
-use Rattle.state.specs.declared.Answer.TheVariants as answer
-use Rattle.state.specs.Answers.{number_of}
+use Rattle.std.specs.Prelude.{Err}
+use Rattle.checks.specs.declared.Refusal.{Refusal}
+use Rattle.state.specs.Answers.{Answered, number_of}
 use Rattle.room.specs.Step.{answered, stepped}
 use Rattle.history.specs.Calls.{all_steps}
 use Rattle.history.specs.Run.{ran}
@@ -20,7 +20,7 @@ use Rattle.rehearsal.specs.Rehearsal.{step_lines, end_line, record_lines, room_a
 use Rattle.rehearsal.specs.Buffer.{record_max, step_max}
 
 -- how long a line of a record is
-pub step_short : (index : ℕ) (a : Answer) → index ≤ record_max → number_of a < 2 ^ 32 → length (step_line index a) ≤ step_max
+pub step_short : (index : ℕ) (a : Answered) → index ≤ record_max → number_of a < 2 ^ 32 → length (step_line index a) ≤ step_max
 unfolding step_line
 step_short index a h k =
     simp length-append (omega (arith, digits_most 5 index (omega arith) (omega arith) (omega arith), digits_ten (number_of a) k, word_length a))
@@ -30,9 +30,9 @@ pub lines_none : (index : ℕ) (room : List ℕ) → record_lines index room (en
 unfolding record_lines ended step_lines end_line
 lines_none index room = refl
 
-pub lines_stop : (index : ℕ) (room : List ℕ) (n : ℕ) → record_lines index room (ended (Unread n)) ≡ step_line index (answer.Refused n)
+pub lines_stop : (index : ℕ) (room : List ℕ) (n : Refusal) → record_lines index room (ended (Unread n)) ≡ step_line index (Err n)
 unfolding record_lines ended step_lines end_line
-lines_stop index room n = ap (λ (i : ℕ). step_line i (answer.Refused n)) (omega arith)
+lines_stop index room n = ap (λ (i : ℕ). step_line i (Err n)) (omega arith)
 
 pub lines_more
     : (index : ℕ) (room : List ℕ) (st : Step) (s : Script)

@@ -1,7 +1,7 @@
 -- What the program rehearse prints (SPEC, "Step records").
-use Rattle.std.specs.Prelude.{ℕ, zero, suc, ◌+◌, cond, List, [], ◌∷◌, ◌++◌, length, drop, replicate, ltb}
+use Rattle.std.specs.Prelude.{ℕ, zero, suc, ◌+◌, cond, List, [], ◌∷◌, ◌++◌, length, drop, replicate, ltb, Result, Err}
+use Rattle.checks.specs.declared.Refusal.{Refusal}
 use Rattle.state.specs.declared.Sizes.{Sizes}
-use Rattle.state.specs.declared.Answer.TheVariants as answer
 use Rattle.state.specs.declared.Step.{Step}
 use Rattle.layout.specs.Places.{sizes_fit}
 use Rattle.layout.specs.Cells.{sizes_of}
@@ -9,7 +9,7 @@ use Rattle.room.specs.Open.{opened_cells}
 use Rattle.room.specs.Step.{answered, stepped}
 use Rattle.history.specs.Calls.{all_steps}
 use Rattle.history.specs.Run.{ran}
-use Rattle.catalogue.specs.declared.Listing.{Listing}
+use Rattle.catalogue.specs.declared.Counts.{Counts}
 use Rattle.catalogue.specs.Fold.{pieces}
 use Rattle.catalogue.specs.Listing.{taken_of, skipped_of}
 use Rattle.catalogue.specs.Call.{catalogue_of}
@@ -24,7 +24,7 @@ step_lines index room (st ∷ sts) = step_line index (answered room st) ++ step_
 -- how the records end: a record that cannot be read has a line, the end of the input has none
 unfoldable pub end_line : ℕ → Ending → List ℕ
 end_line index Between = []
-end_line index (Unread n) = step_line index (answer.Refused n)
+end_line index (Unread n) = step_line index (Err n)
 
 -- the lines of a script that begins at an index and in a room
 unfoldable pub record_lines : ℕ → List ℕ → Script → List ℕ
@@ -35,7 +35,7 @@ unfoldable pub room_after : List ℕ → Script → List ℕ
 room_after room s = ran room (all_steps s.steps)
 
 -- a server's line, with the two counts of its catalogue
-unfoldable pub counts_line : ℕ → Listing → List ℕ
+unfoldable pub counts_line : ℕ → Result Counts Refusal → List ℕ
 counts_line p l = server_line p (taken_of l) (skipped_of l)
 
 unfoldable pub line_of : List ℕ → ℕ → List ℕ

@@ -13,7 +13,7 @@ ghost use Rattle.rehearsal.specs.Buffer.{Holds, record_max, step_max, text_max, 
 
 pub use input::read_full;
 use records::Records;
-use register::{Answer, Opening};
+use register::{Counts, Refusal};
 use state::Sizes;
 use transcript::Transcript;
 
@@ -34,11 +34,11 @@ pub fn rehearse(input: &[u8], cells: &mut [u32; CELLS_MAX], out: &mut [u8; TEXT_
 {
     let mut text = Transcript::new(out);
     if INPUT_MAX < input.len() {
-        text.open_line(2);
+        text.open_line(Refusal::WrongLength.number());
         return text.length;
     }
     let [servers, drives, slots, records @ ..] = input else {
-        text.open_line(14);
+        text.open_line(Refusal::CutShort.number());
         return text.length;
     };
     let z = Sizes {
@@ -57,11 +57,11 @@ fn run(z: Sizes, records: &[u8], cells: &mut [u32], text: &mut Transcript)
 {
     let room = &mut cells[..layout::length_of(z)];
     match register::open(room, z.servers, z.drives, z.slots) {
-        Opening::Opened => {
+        Ok(()) => {
             steps(records, room, text);
             servers(z.servers, room, text);
         }
-        Opening::Refused(number) => text.open_line(number),
+        Err(refusal) => text.open_line(refusal.number()),
     }
 }
 
@@ -75,7 +75,7 @@ fn steps(records: &[u8], room: &mut [u32], text: &mut Transcript)
     for (index, record) in Records(records).enumerate() {
         let answer = match record {
             Ok(step) => register::step(room, step),
-            Err(number) => Answer::Refused(number),
+            Err(refusal) => Err(refusal),
         };
         text.step_line(index as u32, answer);
     }
@@ -98,6 +98,9 @@ fn server(p: u32, room: &[u32], text: &mut Transcript)
     ensures { Adds text.old (line_of room.now p) text.new line_max }
 {
     let mut pieces = [0u32; catalogue::PIECES];
-    let listing = register::catalogue(room, p, &mut pieces);
-    text.server_line(p, listing.taken(), listing.skipped());
+    let counts = register::catalogue(room, p, &mut pieces).unwrap_or(Counts {
+        taken: 0,
+        skipped: 0,
+    });
+    text.server_line(p, counts.taken, counts.skipped);
 }

@@ -12,7 +12,6 @@ pub record InSlot (z : Sizes) (cells : List ℕ) (s p : ℕ) : Type 0 where
   pub server : p < z.servers
 
 abbrev pub ReadyAt : Sizes → List ℕ → Effect → Type 0
-ReadyAt z cells (effect.Refused n) = Unit {0}
 ReadyAt z cells (effect.Record s p v a) = InSlot z cells s p
 ReadyAt z cells (effect.Block s d p v) = InSlot z cells s p × (d < z.drives)
 ReadyAt z cells (effect.Failure p) = Row z cells × (p < z.servers)

@@ -2,8 +2,10 @@
 ghost use Rattle.std.specs.Prelude.{◌≡◌, true};
 ghost use Rattle.layout.specs.Places.{Row};
 ghost use Rattle.synod.specs.Arguments.{places_fit};
-ghost use Rattle.room.specs.Judge.{recording, blocking, effect_of, judged, answer_of};
+ghost use Rattle.checks.specs.Checks.{mapped};
+ghost use Rattle.room.specs.Judge.{recording, effect_of, judged, answer_of};
 
+use checks::Refusal;
 use layout::{block, server};
 use quorum::{with_mark, without_mark};
 use state::{Answer, Server, Sizes, Step};
@@ -13,7 +15,6 @@ use synod::Ruling;
 // in every slot, or the off marks.
 #[derive(Clone, Copy)]
 pub enum Effect {
-    Refused(u32),
     Record {
         slot: u8,
         server: u8,
@@ -38,47 +39,34 @@ impl Effect {
         ensures { result ≡ answer_of self }
     {
         match self {
-            Effect::Refused(number) => Answer::Refused(number),
-            Effect::Record {
-                slot: _,
-                server: _,
-                record: _,
-                answer,
-            } => answer,
-            Effect::Block {
-                slot: _,
-                drive: _,
-                server: _,
-                record: _,
-            } => Answer::Done,
-            Effect::Failure { server: _ } => Answer::Done,
-            Effect::Off(_) => Answer::Done,
+            Effect::Record { answer, .. } => answer,
+            Effect::Block { .. } | Effect::Failure { .. } | Effect::Off(_) => Answer::Done,
         }
     }
 }
 
 // Judges a step on a row: the room, the step's numbers, then the rule of its kind. Nothing is stored.
 #[tactic(auto, using(crate::proofs::Checks::refused_3, crate::proofs::Checks::refused_4, crate::proofs::Checks::refused_5, crate::proofs::Checks::passed, crate::proofs::Ranged::ranged_head, crate::proofs::Ranged::ranged_row))]
-pub fn judge(room: &[u32], step: Step) -> Effect
+pub fn judge(room: &[u32], step: Step) -> Result<Effect, Refusal>
     ensures { result ≡ judged room.now step }
 {
     if !range::in_range(room) {
-        return Effect::Refused(3);
+        return Err(Refusal::OutOfRange);
     }
     let z = layout::sizes(room);
     if !arguments::places_fit(z, step) {
-        return Effect::Refused(4);
+        return Err(Refusal::BeyondRoom);
     }
     let limits = layout::limits(room);
     if !arguments::command_fits(&limits, step) {
-        return Effect::Refused(5);
+        return Err(Refusal::NoCommand);
     }
     rule(room, z, step)
 }
 
 // The rule of the step's kind, on the record and the block that it names.
 #[tactic(auto, unfolding(crate::specs::Judge::effect_of, synod::specs::Rules::rule_of))]
-fn rule(room: &[u32], z: Sizes, step: Step) -> Effect
+fn rule(room: &[u32], z: Sizes, step: Step) -> Result<Effect, Refusal>
     requires { Row z room.now × (places_fit z step ≡ true) }
     ensures { result ≡ effect_of z room.now step }
 {
@@ -98,7 +86,15 @@ fn rule(room: &[u32], z: Sizes, step: Step) -> Effect
             let v = server(room, z, s, p);
             recorded(s, p, rules::bid(z.servers, v, p, ballot))
         }
-        Step::Write(p, s, d) => blocked(s, d, p, rules::write(off, server(room, z, s, p), d)),
+        Step::Write(p, s, d) => {
+            let (record, _) = rules::write(off, server(room, z, s, p), d)?;
+            Ok(Effect::Block {
+                slot: s,
+                drive: d,
+                server: p,
+                record,
+            })
+        }
         Step::Read(p, s, d, q) => {
             let v = server(room, z, s, p);
             let b = block(room, z, s, d, q);
@@ -108,36 +104,21 @@ fn rule(room: &[u32], z: Sizes, step: Step) -> Effect
             let v = server(room, z, s, p);
             recorded(s, p, rules::finish(z.servers, z.drives, v, p))
         }
-        Step::Fail(p) => Effect::Failure { server: p },
-        Step::DriveOff(d) => Effect::Off(with_mark(off, d as u32)),
-        Step::DriveOn(d) => Effect::Off(without_mark(off, d as u32)),
+        Step::Fail(p) => Ok(Effect::Failure { server: p }),
+        Step::DriveOff(d) => Ok(Effect::Off(with_mark(off, d as u32))),
+        Step::DriveOn(d) => Ok(Effect::Off(without_mark(off, d as u32))),
     }
 }
 
-fn recorded(slot: u8, server: u8, r: Ruling) -> Effect
-    ensures { result ≡ recording slot server r }
+// What is stored of a ruling on the record of a server in a slot.
+fn recorded(slot: u8, server: u8, r: Ruling) -> Result<Effect, Refusal>
+    ensures { result ≡ mapped (recording slot server) r }
 {
-    match r {
-        Ruling::Refused(number) => Effect::Refused(number),
-        Ruling::Accepted(record, answer) => Effect::Record {
-            slot,
-            server,
-            record,
-            answer,
-        },
-    }
-}
-
-fn blocked(slot: u8, drive: u8, server: u8, r: Ruling) -> Effect
-    ensures { result ≡ blocking slot drive server r }
-{
-    match r {
-        Ruling::Refused(number) => Effect::Refused(number),
-        Ruling::Accepted(record, _) => Effect::Block {
-            slot,
-            drive,
-            server,
-            record,
-        },
-    }
+    let (record, answer) = r?;
+    Ok(Effect::Record {
+        slot,
+        server,
+        record,
+        answer,
+    })
 }

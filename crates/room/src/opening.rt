@@ -3,18 +3,12 @@ ghost use Rattle.std.specs.Prelude.{◌≡◌};
 ghost use Rattle.state.specs.Sizes.{sizes};
 ghost use Rattle.room.specs.Open.{opening, opened};
 
+use checks::Refusal;
 use state::Sizes;
-
-// What open answers.
-#[derive(Clone, Copy)]
-pub enum Opening {
-    Opened,
-    Refused(u32),
-}
 
 // Makes the row a room of these sizes with every cell 0 but the sizes. Refused with 1 where the sizes do not fit and
 // with 2 where the row is not exactly as long as the room; then no cell changes.
-pub fn open(row: &mut [u32], servers: u32, drives: u32, slots: u32) -> Opening
+pub fn open(row: &mut [u32], servers: u32, drives: u32, slots: u32) -> Result<(), Refusal>
     ensures { (result ≡ opening (sizes servers drives slots) row.old)
         × (row.new ≡ opened (sizes servers drives slots) row.old) }
 {
@@ -24,14 +18,14 @@ pub fn open(row: &mut [u32], servers: u32, drives: u32, slots: u32) -> Opening
         slots,
     };
     if !layout::sizes_fit(z) {
-        return Opening::Refused(1);
+        return Err(Refusal::SizesUnfit);
     }
     if row.len() != layout::room_length(z) {
-        return Opening::Refused(2);
+        return Err(Refusal::WrongLength);
     }
     layout::clear(row);
     row[0] = servers;
     row[1] = drives;
     row[2] = slots;
-    Opening::Opened
+    Ok(())
 }

@@ -6,17 +6,18 @@ ghost use Rattle.room.specs.Ready.{Ready};
 ghost use Rattle.room.specs.Step.{failed_below, settled, answered, stepped};
 
 use crate::effect::{Effect, judge};
+use checks::Refusal;
 use layout::{server, sizes, store_block, store_server};
 use state::{Answer, Sizes, Step};
 
 // Judges the step and stores what it changes. A refusal changes no cell.
 #[tactic(auto, using(crate::proofs::ReadyLaws::judged_ready), unfolding(crate::specs::Step::answered, crate::specs::Step::stepped))]
-pub fn step(room: &mut [u32], step: Step) -> Answer
+pub fn step(room: &mut [u32], step: Step) -> Result<Answer, Refusal>
     ensures { (result ≡ answered room.old step) × (room.new ≡ stepped room.old step) }
 {
-    let e = judge(room, step);
+    let e = judge(room, step)?;
     settle(room, e);
-    e.answer()
+    Ok(e.answer())
 }
 
 // Stores what the effect says.
@@ -26,7 +27,6 @@ fn settle(room: &mut [u32], e: Effect)
     ensures { room.new ≡ settled (sizes_of room.old) room.old e }
 {
     match e {
-        Effect::Refused(_) => {}
         Effect::Record {
             slot,
             server,

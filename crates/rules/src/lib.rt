@@ -2,12 +2,13 @@
 // and answers a refusal or the record as it becomes, with the answer.
 #![tactic(auto)]
 
-ghost use Rattle.std.specs.Prelude.{◌≡◌, ◌≤◌, max};
+ghost use Rattle.std.specs.Prelude.{◌≡◌, max};
 ghost use Rattle.synod.specs.Changes.{meeting, bidding};
 ghost use Rattle.ballot.specs.Ballot.{next_own};
 ghost use Rattle.synod.specs.Rules.{ruling, balloting, joined, agree_rule, command_of, outbid_rule, offer_rule, recall_rule, rejoin_rule, bid_rule, write_rule, read_rule, finish_rule};
 
-use ballot::{Next, is_own, next_own};
+use ballot::{is_own, next_own};
+use checks::Refusal;
 use quorum::{has_mark, is_majority, with_mark};
 use state::{Answer, Block, Server};
 use synod::Ruling;
@@ -18,7 +19,7 @@ pub fn offer(mut v: Server, command: u32) -> Ruling
     ensures { result ≡ ruling (offer_rule v command) }
 {
     v.offer = command;
-    Ruling::Accepted(v, Answer::Done)
+    Ok((v, Answer::Done))
 }
 
 // 2 Recall, phase 0: b is server p's own block on drive d.
@@ -27,39 +28,38 @@ pub fn recall(off: u32, v: Server, b: Block, p: u8, d: u8) -> Ruling
     ensures { result ≡ ruling (recall_rule off v b p d) }
 {
     if v.phase != 0 {
-        return Ruling::Refused(7);
+        return Err(Refusal::WrongPhase);
     }
     if has_mark(off, d as u32) {
-        return Ruling::Refused(8);
+        return Err(Refusal::DriveIsOff);
     }
     let mut w = v;
     w.read = with_mark(v.read, drives::read_bit(d as u32, p as u32));
-    w.top = larger(v.top, b.mbal);
-    Ruling::Accepted(meet(w, b), Answer::Done)
+    w.top = v.top.max(b.mbal);
+    Ok((meet(w, b), Answer::Done))
 }
 
 // 3 Rejoin, phase 0, a majority recalled, the ballot p's and above top.
 #[tactic(auto, using(crate::proofs::Judged::judged), unfolding(checks::specs::Checks::must, synod::specs::Rules::rejoin_rule, synod::specs::Changes::rejoining))]
 pub fn rejoin(servers: u32, drives: u32, v: Server, p: u8, ballot: u32) -> Ruling
-    requires { drives ≤ 7 }
     ensures { result ≡ ruling (rejoin_rule servers drives v p ballot) }
 {
     if !is_own(servers, p as u32, ballot) {
-        return Ruling::Refused(6);
+        return Err(Refusal::NotOwnBallot);
     }
     if v.phase != 0 {
-        return Ruling::Refused(7);
+        return Err(Refusal::WrongPhase);
     }
     if !is_majority(drives, drives::recalled(v, p, drives)) {
-        return Ruling::Refused(10);
+        return Err(Refusal::NoMajority);
     }
     if ballot <= v.top {
-        return Ruling::Refused(11);
+        return Err(Refusal::BallotTooLow);
     }
-    Ruling::Accepted(
+    Ok((
         v.with_own(1, ballot, v.seenbal, v.seeninp).cleared(),
         Answer::Done,
-    )
+    ))
 }
 
 // 4 Bid, phase 1 or 2, the ballot p's and above the own mbal.
@@ -68,15 +68,15 @@ pub fn bid(servers: u32, v: Server, p: u8, ballot: u32) -> Ruling
     ensures { result ≡ ruling (bid_rule servers v p ballot) }
 {
     if !is_own(servers, p as u32, ballot) {
-        return Ruling::Refused(6);
+        return Err(Refusal::NotOwnBallot);
     }
     if !in_ballot(v) {
-        return Ruling::Refused(7);
+        return Err(Refusal::WrongPhase);
     }
     if ballot <= v.mbal {
-        return Ruling::Refused(11);
+        return Err(Refusal::BallotTooLow);
     }
-    Ruling::Accepted(restart(v, ballot), Answer::Done)
+    Ok((restart(v, ballot), Answer::Done))
 }
 
 // 5 Write, phase 1, 2 or 3. The block to be written is the own block.
@@ -85,14 +85,14 @@ pub fn write(off: u32, v: Server, d: u8) -> Ruling
     ensures { result ≡ ruling (write_rule off v d) }
 {
     if !has_joined(v) {
-        return Ruling::Refused(7);
+        return Err(Refusal::WrongPhase);
     }
     if has_mark(off, d as u32) {
-        return Ruling::Refused(8);
+        return Err(Refusal::DriveIsOff);
     }
     let mut w = v;
     w.written = with_mark(v.written, d as u32);
-    Ruling::Accepted(w, Answer::Done)
+    Ok((w, Answer::Done))
 }
 
 // 6 Read, phase 1 or 2, d written in this phase: b is server q's block on drive d. A done is learned before the ballots
@@ -102,13 +102,13 @@ pub fn read(servers: u32, off: u32, v: Server, b: Block, p: u8, d: u8, q: u8) ->
     ensures { result ≡ ruling (read_rule servers off v b p d q) }
 {
     if !in_ballot(v) {
-        return Ruling::Refused(7);
+        return Err(Refusal::WrongPhase);
     }
     if has_mark(off, d as u32) {
-        return Ruling::Refused(8);
+        return Err(Refusal::DriveIsOff);
     }
     if !has_mark(v.written, d as u32) {
-        return Ruling::Refused(9);
+        return Err(Refusal::NotWritten);
     }
     let own = v.mbal;
     let found = b.mbal;
@@ -121,28 +121,27 @@ pub fn read(servers: u32, off: u32, v: Server, b: Block, p: u8, d: u8, q: u8) ->
     }
     let mut w = v;
     w.read = with_mark(v.read, drives::read_bit(d as u32, q as u32));
-    Ruling::Accepted(meet(w, b), Answer::Done)
+    Ok((meet(w, b), Answer::Done))
 }
 
 // 7 Finish, phase 1 or 2, a majority of drives written with every other server's block read there.
 #[tactic(auto, using(crate::proofs::Judged::judged), unfolding(checks::specs::Checks::must, synod::specs::Rules::finish_rule, synod::specs::Changes::proposing))]
 pub fn finish(servers: u32, drives: u32, v: Server, p: u8) -> Ruling
-    requires { (servers ≤ 4) × (drives ≤ 7) }
     ensures { result ≡ ruling (finish_rule servers drives v p) }
 {
     if !in_ballot(v) {
-        return Ruling::Refused(7);
+        return Err(Refusal::WrongPhase);
     }
     if !is_majority(drives, drives::complete(servers, v, p, drives)) {
-        return Ruling::Refused(10);
+        return Err(Refusal::NoMajority);
     }
     if v.phase == 1 {
         let command = command_of(v);
         if command == 0 {
-            return Ruling::Refused(12);
+            return Err(Refusal::NothingToTry);
         }
         let w = v.with_own(2, v.mbal, v.mbal, command).cleared();
-        return Ruling::Accepted(w, Answer::Chosen(command));
+        return Ok((w, Answer::Chosen(command)));
     }
     agree_on(v, v.inp)
 }
@@ -152,7 +151,7 @@ pub fn finish(servers: u32, drives: u32, v: Server, p: u8) -> Ruling
 fn agree_on(v: Server, command: u32) -> Ruling
     ensures { result ≡ ruling (agree_rule v command) }
 {
-    Ruling::Accepted(v.with_agreed(command).cleared(), Answer::Committed(command))
+    Ok((v.with_agreed(command).cleared(), Answer::Committed(command)))
 }
 
 // A block with a ballot that is not below the own one was found.
@@ -160,10 +159,8 @@ fn agree_on(v: Server, command: u32) -> Ruling
 fn outbid(servers: u32, v: Server, p: u8, found: u32) -> Ruling
     ensures { result ≡ ruling (outbid_rule v found (next_own servers p found)) }
 {
-    match next_own(servers, p as u32, found) {
-        Next::Ballot(next) => Ruling::Accepted(restart(v, next), Answer::Outbid(found)),
-        Next::Spent => Ruling::Refused(13),
-    }
+    let next = next_own(servers, p as u32, found).ok_or(Refusal::BallotsSpent)?;
+    Ok((restart(v, next), Answer::Outbid(found)))
 }
 
 // Phase 1 of a new ballot.
@@ -190,13 +187,13 @@ fn meet(mut v: Server, b: Block) -> Server
 fn in_ballot(v: Server) -> bool
     ensures { result ≡ balloting v }
 {
-    (v.phase == 1) | (v.phase == 2)
+    matches!(v.phase, 1 | 2)
 }
 
 fn has_joined(v: Server) -> bool
     ensures { result ≡ joined v }
 {
-    (v.phase == 1) | (v.phase == 2) | (v.phase == 3)
+    matches!(v.phase, 1 | 2 | 3)
 }
 
 // The command of phase 1; 0 is none.
@@ -204,10 +201,4 @@ fn command_of(v: Server) -> u32
     ensures { result ≡ command_of v }
 {
     if v.seeninp == 0 { v.offer } else { v.seeninp }
-}
-
-fn larger(a: u32, b: u32) -> u32
-    ensures { result ≡ max a b }
-{
-    if a < b { b } else { a }
 }

@@ -12,12 +12,14 @@ use Rattle.ballot.specs.Ballot.{owned}
 use Rattle.quorum.specs.Marks.{stands}
 use Rattle.quorum.specs.Sets.{all_below, majority}
 use Rattle.quorum.proofs.AllBelow.{all_at}
-use Rattle.state.specs.declared.Answer.TheVariants.{Done, Refused}
+use Rattle.std.specs.Prelude.{Ok, Err}
+use Rattle.checks.specs.declared.Refusal.TheVariants.{SizesUnfit}
+use Rattle.checks.specs.Refusals.{refusal_in}
+use Rattle.state.specs.declared.Answer.TheVariants.{Done}
 use Rattle.state.specs.declared.Sizes.{Sizes}
 use Rattle.layout.specs.Places.{sizes_fit, room_length}
 use Rattle.layout.proofs.PlaceLaws.{fit_of, of_fit}
-use Rattle.room.specs.declared.opening.Opening.TheVariants as opening-answer
-use Rattle.room.specs.Open.{open_refusal, opening}
+use Rattle.room.specs.Open.{opening}
 use Rattle.room.proofs.OpenLaws.{Opens, opens_1}
 use Rattle.state.specs.Sizes.{sizes}
 use Rattle.starred.specs.Runs.{new_room, same_answer}
@@ -52,18 +54,18 @@ unopened : (n number d s : ℕ) (row : List ℕ) → is_unopened n number ≡ tr
 unopened n number d s row e =
     let z : Sizes = sizes n d s in
     let least : Sizes = sizes n 1 1 in
-    let t = both (not (sizes_fit least)) (eqb (open_refusal (opening least [])) number) e in
+    let t = both (not (sizes_fit least)) (eqb (refusal_in (opening least [])) number) e in
     let none : sizes_fit least ≡ false = not-true (sizes_fit least) t.0 in
     let unfit : sizes_fit z ≡ false =
     by_test (sizes_fit z) (λ f. absurd (true≢false (sym (fits_least n d s f) ∙ none))) (λ f. f) in
-    let o : Opens z row (opening-answer.Refused 1) row = opens_1 z row unfit in
-    let one : 1 ≡ number = ap open_refusal (opens_1 least [] none).answers ∙ eqb-true (open_refusal (opening least [])) number t.1 in
-    record { refused = sym (ap open_refusal o.answers) ∙ one; kept = sym o.leaves }
+    let o : Opens z row (Err SizesUnfit) row = opens_1 z row unfit in
+    let one : 1 ≡ number = ap refusal_in (opens_1 least [] none).answers ∙ eqb-true (refusal_in (opening least [])) number t.1 in
+    record { refused = sym (ap refusal_in o.answers) ∙ one; kept = sym o.leaves }
 
 command : (v k p h : ℕ) → holds (Command v k p h) ≡ true → IsCommand v k p h
 unfolding holds
 command v k p h e =
-    let done = same_answer (offered v) Done in
+    let done = same_answer (offered v) (Ok Done) in
     let t1 = both (is_command cabinet_limits v) (eqb (kind_of v) k && (eqb (piece_of v) p && (eqb (hoard_of v) h && done))) e in
     let t2 = both (eqb (kind_of v) k) (eqb (piece_of v) p && (eqb (hoard_of v) h && done)) t1.1 in
     let t3 = both (eqb (piece_of v) p) (eqb (hoard_of v) h && done) t2.1 in
@@ -73,7 +75,7 @@ command v k p h e =
       kind = eqb-true (kind_of v) k t2.0;
       piece = eqb-true (piece_of v) p t3.0;
       hoard = eqb-true (hoard_of v) h t4.0;
-      accepted = same_answer_lem (offered v) Done t4.1;
+      accepted = same_answer_lem (offered v) (Ok Done) t4.1;
     }
 
 -- one law for all kinds of cases
@@ -85,8 +87,8 @@ case_says (Length n d s cells) e =
 case_says (Unopened n number) e = λ d s row. unopened n number d s row e
 case_says (Command v k p h) e = command v k p h e
 case_says (NoCommand v number) e =
-    let t = both (not (is_command cabinet_limits v)) (same_answer (offered v) (Refused number)) e in
-    (not-true (is_command cabinet_limits v) t.0, same_answer_lem (offered v) (Refused number) t.1)
+    let t = both (not (is_command cabinet_limits v)) (eqb (refusal_in (offered v)) number) e in
+    (not-true (is_command cabinet_limits v) t.0, eqb-true (refusal_in (offered v)) number t.1)
 case_says (Owned n b p) e =
     let only : ℕ → Bool = λ q. not (owned n q b) || eqb q p in
     let t = both (owned n p b) (all_below n only) e in

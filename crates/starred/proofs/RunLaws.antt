@@ -1,39 +1,40 @@
 -- A run that passes its test is as it says.
 use Prim.Native.Nat.{ℕ, zero, suc}
-use mathlib.Core.Path.{◌≡◌, refl, ◌∙◌, sym, ap₂}
+use mathlib.Core.Path.{◌≡◌, refl, ◌∙◌, sym, ap, ap₂}
 use mathlib.Core.Bool.{Bool, true, ◌&&◌}
 use mathlib.Core.List.{List, [], ◌∷◌, ◌++◌}
 use lib.Dec.{eqb}
 use borrow.Author.Tests.{eqb-true}
 use Rattle.lemmas.proofs.Tests.{and_left, and_right}
-use Rattle.state.specs.declared.Answer.{Answer}
-use Rattle.state.specs.declared.Answer.TheVariants.{Done, Outbid, Chosen, Committed, Refused}
-use Rattle.state.specs.Answers.{code_of, number_of}
+use Rattle.std.specs.Prelude.{Ok, Err}
+use Rattle.checks.proofs.NumberLaws.{refusal_at, at_number}
+use Rattle.state.specs.declared.Answer.TheVariants.{Done, Outbid, Chosen, Committed}
+use Rattle.state.specs.Answers.{Answered, code_of, number_of}
 use Rattle.room.specs.Step.{answered, stepped}
 use Rattle.range.proofs.Together.{same_block_lem}
 use Rattle.state.specs.Block.{same_block}
 use Rattle.starred.specs.Runs.{Line, ◌↝◌, Own, OnDrive, own, on_drive, Replays, last_cells, same_answer, replays}
 
 -- the answer with this word and this number
-abbrev from_code : ℕ → ℕ → Answer
-from_code zero n = Done
-from_code (suc zero) n = Outbid n
-from_code (suc (suc zero)) n = Chosen n
-from_code (suc (suc (suc zero))) n = Committed n
-from_code (suc (suc (suc (suc k)))) n = Refused n
+abbrev from_code : ℕ → ℕ → Answered
+from_code zero n = Ok Done
+from_code (suc zero) n = Ok (Outbid n)
+from_code (suc (suc zero)) n = Ok (Chosen n)
+from_code (suc (suc (suc zero))) n = Ok (Committed n)
+from_code (suc (suc (suc (suc k)))) n = Err (refusal_at n)
 
-from_own_code : (a : Answer) → from_code (code_of a) (number_of a) ≡ a
-from_own_code Done = refl
-from_own_code (Outbid b) = refl
-from_own_code (Chosen c) = refl
-from_own_code (Committed c) = refl
-from_own_code (Refused n) = refl
+from_own_code : (a : Answered) → from_code (code_of a) (number_of a) ≡ a
+from_own_code (Ok Done) = refl
+from_own_code (Ok (Outbid b)) = refl
+from_own_code (Ok (Chosen c)) = refl
+from_own_code (Ok (Committed c)) = refl
+from_own_code (Err r) = ap Err (at_number r)
 
 -- both parts of a test
 pub both : (a b : Bool) → (a && b) ≡ true → (a ≡ true) × (b ≡ true)
 both a b e = (and_left a b e, and_right a b e)
 
-pub same_answer_lem : (a b : Answer) → same_answer a b ≡ true → a ≡ b
+pub same_answer_lem : (a b : Answered) → same_answer a b ≡ true → a ≡ b
 unfolding same_answer
 same_answer_lem a b e =
     let t = both (eqb (code_of a) (code_of b)) (eqb (number_of a) (number_of b)) e in

@@ -6,13 +6,17 @@ use mathlib.Core.List.{List, [], ◌∷◌, ◌++◌}
 use native.Mathlib.Omega.{arith}
 use lib.Count.{ones}
 use lib.Dec.{leb}
+use Rattle.std.specs.Prelude.{Ok, Err}
+use Rattle.checks.specs.declared.Refusal.TheVariants.{NoCommand}
+use Rattle.checks.specs.Refusals.{refusal_in}
+use Rattle.checks.proofs.NumberLaws.{refused_is}
 use Rattle.quorum.specs.Marks.{stands}
 use Rattle.quorum.specs.Sets.{majority}
-use Rattle.state.specs.declared.Answer.TheVariants.{Outbid, Refused}
+use Rattle.state.specs.declared.Answer.TheVariants.{Outbid}
 use Rattle.state.specs.declared.Block.{Block}
 use Rattle.state.specs.declared.Step.TheVariants.{Read}
 use Rattle.layout.specs.Places.{room_length}
-use Rattle.room.specs.Open.{open_refusal, opening}
+use Rattle.room.specs.Open.{opening}
 use Rattle.room.specs.Step.{answered, stepped}
 use Rattle.state.specs.Sizes.{sizes}
 use Rattle.state.specs.Block.{block}
@@ -27,13 +31,13 @@ unfolding starred
 largest_length = (starred_says 1).1
 
 -- whatever the drives, the slots and the row
-pub no_servers : (d s : ℕ) (row : List ℕ) → open_refusal (opening (sizes 0 d s) row) ≡ 1
+pub no_servers : (d s : ℕ) (row : List ℕ) → refusal_in (opening (sizes 0 d s) row) ≡ 1
 unfolding starred
 no_servers d s row = (starred_says 2 d s row).refused
 
-pub above_the_limit : offered 81725 ≡ Refused 5
+pub above_the_limit : offered 81725 ≡ Err NoCommand
 unfolding starred
-above_the_limit = (starred_says 4).1
+above_the_limit = refused_is (offered 81725) NoCommand (starred_says 4).1
 
 -- drive 0 alone of two drives, and not drive 1 alone
 pub drive_0_of_2 : majority 2 (stands 1) ≡ true
@@ -50,11 +54,11 @@ unfolding starred
 majority_of_7 = starred_says 10
 
 -- server 1 at 2 reads server 2's block on drive 0: what follows
-finds_7 : Replays (last_cells (new_room (sizes 4 1 1)) met) (Read 1 0 0 2 ↝ Outbid 7 ∷ Own 1 (block 10 0 0) ∷ [])
+finds_7 : Replays (last_cells (new_room (sizes 4 1 1)) met) (Read 1 0 0 2 ↝ Ok (Outbid 7) ∷ Own 1 (block 10 0 0) ∷ [])
 unfolding starred
-finds_7 = later (new_room (sizes 4 1 1)) met (Read 1 0 0 2 ↝ Outbid 7 ∷ Own 1 (block 10 0 0) ∷ []) (starred_says 11)
+finds_7 = later (new_room (sizes 4 1 1)) met (Read 1 0 0 2 ↝ Ok (Outbid 7) ∷ Own 1 (block 10 0 0) ∷ []) (starred_says 11)
 
-pub outbid_by_7 : answered (last_cells (new_room (sizes 4 1 1)) met) (Read 1 0 0 2) ≡ Outbid 7
+pub outbid_by_7 : answered (last_cells (new_room (sizes 4 1 1)) met) (Read 1 0 0 2) ≡ Ok (Outbid 7)
 unfolding Replays
 outbid_by_7 = finds_7.0
 

@@ -1,17 +1,18 @@
 -- The kinds of starred values: what a case of each kind says, and the test that it passes.
-use Rattle.std.specs.Prelude.{ℕ, ◌^◌, ◌<◌, Bool, true, false, not, ◌&&◌, ◌||◌, List, [], ◌∷◌, ◌≡◌, eqb, leb, get_or}
+use Rattle.std.specs.Prelude.{ℕ, ◌^◌, ◌<◌, Bool, true, false, not, ◌&&◌, ◌||◌, List, [], ◌∷◌, ◌≡◌, eqb, leb, get_or, Ok}
 use Rattle.std.specs.Bool.{beq}
 use Rattle.std.specs.Int.Count.{ones}
 use Rattle.command.specs.Command.{kind_of, piece_of, hoard_of, cabinet_limits, is_command}
 use Rattle.ballot.specs.Ballot.{owned}
 use Rattle.quorum.specs.Marks.{stands}
 use Rattle.quorum.specs.Sets.{all_below, majority}
-use Rattle.state.specs.declared.Answer.{Answer}
-use Rattle.state.specs.declared.Answer.TheVariants.{Done, Refused}
+use Rattle.checks.specs.Refusals.{refusal_in}
+use Rattle.state.specs.declared.Answer.TheVariants.{Done}
+use Rattle.state.specs.Answers.{Answered}
 use Rattle.state.specs.declared.Sizes.{Sizes}
 use Rattle.state.specs.declared.Step.TheVariants.{Offer}
 use Rattle.layout.specs.Places.{sizes_fit, room_length}
-use Rattle.room.specs.Open.{open_refusal, opening, opened}
+use Rattle.room.specs.Open.{opening, opened}
 use Rattle.room.specs.Step.{answered}
 use Rattle.state.specs.Sizes.{sizes}
 use Rattle.starred.specs.Runs.{new_room, Line, Replays, same_answer, replays}
@@ -34,7 +35,7 @@ pub data Case : Type 0 where
   Run : (servers drives : ℕ) → List Line → Case
 
 -- what the smallest room, just opened, answers to an Offer of v
-abbrev pub offered : ℕ → Answer
+abbrev pub offered : ℕ → Answered
 offered v = answered (new_room (sizes 1 1 1)) (Offer 0 0 v)
 
 -- the tests of mark cells: any set of so many drives or more, and one of the sets listed
@@ -51,11 +52,11 @@ pub record IsCommand (v k p h : ℕ) : Type 0 where
   pub kind : kind_of v ≡ k
   pub piece : piece_of v ≡ p
   pub hoard : hoard_of v ≡ h
-  pub accepted : offered v ≡ Done
+  pub accepted : offered v ≡ Ok Done
 
 -- open refuses these sizes with the number and leaves the row as it was
 pub record IsUnopened (z : Sizes) (number : ℕ) (row : List ℕ) : Type 0 where
-  pub refused : open_refusal (opening z row) ≡ number
+  pub refused : refusal_in (opening z row) ≡ number
   pub kept : opened z row ≡ row
 
 -- what a case says
@@ -63,7 +64,7 @@ abbrev pub Says : Case → Type 0
 Says (Length n d s cells) = (sizes_fit (sizes n d s) ≡ true) × (room_length (sizes n d s) ≡ cells)
 Says (Unopened n number) = (d s : ℕ) (row : List ℕ) → IsUnopened (sizes n d s) number row
 Says (Command v k p h) = IsCommand v k p h
-Says (NoCommand v number) = (is_command cabinet_limits v ≡ false) × (offered v ≡ Refused number)
+Says (NoCommand v number) = (is_command cabinet_limits v ≡ false) × (refusal_in (offered v) ≡ number)
 Says (Owned n b p) = (owned n p b ≡ true) × ((q : ℕ) → q < n → owned n q b ≡ true → q ≡ p)
 Says (Majority d counts) = (m : ℕ) → m < 2 ^ d → majority d (stands m) ≡ counts m
 Says (Run n d run) = Replays (new_room (sizes n d 1)) run
@@ -71,7 +72,7 @@ Says (Run n d run) = Replays (new_room (sizes n d 1)) run
 -- A number of servers that does not fit with one drive and one slot fits with no others, and sizes that do not fit are
 -- refused before the row is looked at: the smallest drives and slots and the empty row show the number for all.
 abbrev pub is_unopened : ℕ → ℕ → Bool
-is_unopened n number = not (sizes_fit (sizes n 1 1)) && eqb (open_refusal (opening (sizes n 1 1) [])) number
+is_unopened n number = not (sizes_fit (sizes n 1 1)) && eqb (refusal_in (opening (sizes n 1 1) [])) number
 
 -- the test of a case
 unfoldable pub holds : Case → Bool
@@ -79,8 +80,8 @@ holds (Length n d s cells) = sizes_fit (sizes n d s) && eqb (room_length (sizes 
 holds (Unopened n number) = is_unopened n number
 holds (Command v k p h) =
     is_command cabinet_limits v
-    && (eqb (kind_of v) k && (eqb (piece_of v) p && (eqb (hoard_of v) h && same_answer (offered v) Done)))
-holds (NoCommand v number) = not (is_command cabinet_limits v) && same_answer (offered v) (Refused number)
+    && (eqb (kind_of v) k && (eqb (piece_of v) p && (eqb (hoard_of v) h && same_answer (offered v) (Ok Done))))
+holds (NoCommand v number) = not (is_command cabinet_limits v) && eqb (refusal_in (offered v)) number
 holds (Owned n b p) = owned n p b && all_below n (λ q. not (owned n q b) || eqb q p)
 holds (Majority d counts) = all_below (2 ^ d) (λ m. beq (majority d (stands m)) (counts m))
 holds (Run n d run) = replays (new_room (sizes n d 1)) run

@@ -1,10 +1,9 @@
 -- Runs in a room of one slot that was just opened: steps with their answers, and what blocks hold in between.
 use Rattle.std.specs.Prelude.{ℕ, Bool, true, ◌&&◌, List, [], ◌∷◌, ◌≡◌, replicate, eqb}
-use Rattle.state.specs.declared.Answer.{Answer}
 use Rattle.state.specs.declared.Block.{Block}
 use Rattle.state.specs.declared.Sizes.{Sizes}
 use Rattle.state.specs.declared.Step.{Step}
-use Rattle.state.specs.Answers.{code_of, number_of}
+use Rattle.state.specs.Answers.{Answered, code_of, number_of}
 use Rattle.state.specs.Block.{same_block}
 use Rattle.state.specs.Server.{own_block}
 use Rattle.layout.specs.Places.{room_length}
@@ -19,7 +18,7 @@ new_room z = opened z (replicate (room_length z) 9)
 infix 70 ◌↝◌
 -- one line of a run: a step and its answer, a server's own block, or a server's block on a drive
 pub data Line : Type 0 where
-  ◌↝◌ : Step → Answer → Line
+  ◌↝◌ : Step → Answered → Line
   Own : (server : ℕ) → Block → Line
   OnDrive : (drive server : ℕ) → Block → Line
 
@@ -45,7 +44,7 @@ last_cells cells (Own p b ∷ run) = last_cells cells run
 last_cells cells (OnDrive d p b ∷ run) = last_cells cells run
 
 -- one word and one number
-unfoldable pub same_answer : Answer → Answer → Bool
+unfoldable pub same_answer : Answered → Answered → Bool
 same_answer a b = eqb (code_of a) (code_of b) && eqb (number_of a) (number_of b)
 
 -- what a run says, as a test

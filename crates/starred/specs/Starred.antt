@@ -1,7 +1,8 @@
 -- The values that are to be proved (SPEC, "Edge values") as one table.
-use Rattle.std.specs.Prelude.{ℕ, List, [], ◌∷◌, ◌++◌}
+use Rattle.std.specs.Prelude.{ℕ, List, [], ◌∷◌, ◌++◌, Ok, Err}
+use Rattle.checks.specs.declared.Refusal.TheVariants.{NotOwnBallot}
 use Rattle.command.specs.Command.{enter, strike}
-use Rattle.state.specs.declared.Answer.TheVariants.{Done, Outbid, Chosen, Refused}
+use Rattle.state.specs.declared.Answer.TheVariants.{Done, Outbid, Chosen}
 use Rattle.state.specs.declared.Step.TheVariants.{Offer, Recall, Rejoin, Bid, Write, Read, Finish, Fail}
 use Rattle.state.specs.Block.{block}
 use Rattle.starred.specs.Runs.{Line, ◌↝◌, Own, OnDrive}
@@ -10,57 +11,57 @@ use Rattle.starred.specs.Cases.{Case, Length, Unopened, Command, NoCommand, Owne
 -- 1,000,001 is no ballot, in a run where every other check passes. By its remainder it would be server 0's.
 abbrev pub past_the_limit : List Line
 past_the_limit =
-    Recall 0 0 0 ↝ Done
-    ∷ Rejoin 0 0 1000001 ↝ Refused 6
-    ∷ Rejoin 0 0 1000000 ↝ Refused 6
-    ∷ Rejoin 0 0 1 ↝ Done
-    ∷ Bid 0 0 1000001 ↝ Refused 6
+    Recall 0 0 0 ↝ Ok Done
+    ∷ Rejoin 0 0 1000001 ↝ Err NotOwnBallot
+    ∷ Rejoin 0 0 1000000 ↝ Err NotOwnBallot
+    ∷ Rejoin 0 0 1 ↝ Ok Done
+    ∷ Bid 0 0 1000001 ↝ Err NotOwnBallot
     ∷ Own 0 (block 1 0 0)
-    ∷ Recall 1 0 0 ↝ Done
-    ∷ Rejoin 1 0 1000001 ↝ Refused 6
-    ∷ Rejoin 1 0 1000000 ↝ Done
-    ∷ Bid 1 0 1000001 ↝ Refused 6
+    ∷ Recall 1 0 0 ↝ Ok Done
+    ∷ Rejoin 1 0 1000001 ↝ Err NotOwnBallot
+    ∷ Rejoin 1 0 1000000 ↝ Ok Done
+    ∷ Bid 1 0 1000001 ↝ Err NotOwnBallot
     ∷ Own 1 (block 1000000 0 0)
     ∷ []
 
 -- server 2 at 7 and server 1 at 2, both written on drive 0
 abbrev pub met : List Line
 met =
-    Recall 2 0 0 ↝ Done
-    ∷ Rejoin 2 0 7 ↝ Done
-    ∷ Write 2 0 0 ↝ Done
-    ∷ Recall 1 0 0 ↝ Done
-    ∷ Rejoin 1 0 2 ↝ Done
-    ∷ Write 1 0 0 ↝ Done
+    Recall 2 0 0 ↝ Ok Done
+    ∷ Rejoin 2 0 7 ↝ Ok Done
+    ∷ Write 2 0 0 ↝ Ok Done
+    ∷ Recall 1 0 0 ↝ Ok Done
+    ∷ Rejoin 1 0 2 ↝ Ok Done
+    ∷ Write 1 0 0 ↝ Ok Done
     ∷ OnDrive 0 2 (block 7 0 0)
     ∷ Own 1 (block 2 0 0)
     ∷ []
 
 -- server 1 at 2 finds 7 and is outbid: now it is at 10
 abbrev pub outbid : List Line
-outbid = met ++ (Read 1 0 0 2 ↝ Outbid 7 ∷ Own 1 (block 10 0 0) ∷ [])
+outbid = met ++ (Read 1 0 0 2 ↝ Ok (Outbid 7) ∷ Own 1 (block 10 0 0) ∷ [])
 
 -- server 0 proposes 66,825 with ballot 1, writes it on drive 0 alone, and fails
 abbrev pub proposed : List Line
 proposed =
-    Offer 0 0 66825 ↝ Done
-    ∷ Recall 0 0 0 ↝ Done
-    ∷ Recall 0 0 1 ↝ Done
-    ∷ Rejoin 0 0 1 ↝ Done
-    ∷ Write 0 0 0 ↝ Done
-    ∷ Write 0 0 1 ↝ Done
-    ∷ Read 0 0 0 1 ↝ Done
-    ∷ Read 0 0 1 1 ↝ Done
-    ∷ Finish 0 0 ↝ Chosen 66825
-    ∷ Write 0 0 0 ↝ Done
-    ∷ Fail 0 ↝ Done
+    Offer 0 0 66825 ↝ Ok Done
+    ∷ Recall 0 0 0 ↝ Ok Done
+    ∷ Recall 0 0 1 ↝ Ok Done
+    ∷ Rejoin 0 0 1 ↝ Ok Done
+    ∷ Write 0 0 0 ↝ Ok Done
+    ∷ Write 0 0 1 ↝ Ok Done
+    ∷ Read 0 0 0 1 ↝ Ok Done
+    ∷ Read 0 0 1 1 ↝ Ok Done
+    ∷ Finish 0 0 ↝ Ok (Chosen 66825)
+    ∷ Write 0 0 0 ↝ Ok Done
+    ∷ Fail 0 ↝ Ok Done
     ∷ OnDrive 0 0 (block 1 1 66825)
     ∷ OnDrive 1 0 (block 1 0 0)
     ∷ []
 
 -- it recalls its blocks on the two drives in this order, and rejoins
 abbrev pub recalled : ℕ → ℕ → List Line
-recalled first second = Recall 0 0 first ↝ Done ∷ Recall 0 0 second ↝ Done ∷ Rejoin 0 0 3 ↝ Done ∷ []
+recalled first second = Recall 0 0 first ↝ Ok Done ∷ Recall 0 0 second ↝ Ok Done ∷ Rejoin 0 0 3 ↝ Ok Done ∷ []
 
 -- Rejoin 3 then makes the own block (3, 1, 66,825)
 abbrev pub rejoined : ℕ → ℕ → List Line

@@ -1,28 +1,26 @@
--- The word and the number of a step's answer (SPEC, "The ten steps").
-use Rattle.std.specs.Prelude.{ℕ}
+-- What a step answers, and the word and the number of that (SPEC, "The ten steps").
+use Rattle.std.specs.Prelude.{ℕ, Result, Ok, Err}
+use Rattle.checks.specs.declared.Refusal.{Refusal}
+use Rattle.checks.specs.Refusals.{refusal_number}
 use Rattle.state.specs.declared.Answer.{Answer}
-use Rattle.state.specs.declared.Answer.TheVariants.{Done, Outbid, Chosen, Committed, Refused}
+use Rattle.state.specs.declared.Answer.TheVariants.{Done, Outbid, Chosen, Committed}
+
+-- an answer, or why the step is refused
+abbrev pub Answered : Type 0
+Answered = Result Answer Refusal
 
 -- the word: 0 done, 1 outbid, 2 chosen, 3 committed, 4 refused
-abbrev pub code_of : Answer → ℕ
-code_of Done = 0
-code_of (Outbid b) = 1
-code_of (Chosen c) = 2
-code_of (Committed c) = 3
-code_of (Refused n) = 4
+abbrev pub code_of : Answered → ℕ
+code_of (Ok Done) = 0
+code_of (Ok (Outbid b)) = 1
+code_of (Ok (Chosen c)) = 2
+code_of (Ok (Committed c)) = 3
+code_of (Err refusal) = 4
 
--- the number beside it: the ballot found, the command, or the refusal
-abbrev pub number_of : Answer → ℕ
-number_of Done = 0
-number_of (Outbid b) = b
-number_of (Chosen c) = c
-number_of (Committed c) = c
-number_of (Refused n) = n
-
--- the number of a refusal; 0 for any other answer
-abbrev pub step_refusal : Answer → ℕ
-step_refusal Done = 0
-step_refusal (Outbid b) = 0
-step_refusal (Chosen c) = 0
-step_refusal (Committed c) = 0
-step_refusal (Refused n) = n
+-- the number beside it: the ballot found, the command, or the number of the refusal
+abbrev pub number_of : Answered → ℕ
+number_of (Ok Done) = 0
+number_of (Ok (Outbid b)) = b
+number_of (Ok (Chosen c)) = c
+number_of (Ok (Committed c)) = c
+number_of (Err refusal) = refusal_number refusal

@@ -6,6 +6,8 @@ ghost use Rattle.state.specs.Block.{ballot_fits, same_block};
 ghost use Rattle.state.specs.Server.{with_own, with_agreed, cleared, failed, own_block, output_of, is_free};
 ghost use Rattle.state.specs.Answers.{code_of, number_of};
 
+use checks::Refusal;
+
 // How many servers, drives and slots a room has.
 #[derive(Clone, Copy)]
 pub struct Sizes {
@@ -124,7 +126,7 @@ impl Server {
             mbal: self.mbal,
             bal: self.bal,
             inp: self.inp,
-            done: done,
+            done,
         }
     }
 
@@ -169,40 +171,37 @@ pub enum Step {
     DriveOn(u8),
 }
 
-// What a step answers: outbid with the ballot found, chosen and committed with the command, refused with its number.
+// What an accepted step answers: outbid with the ballot found, chosen and committed with the command.
 #[derive(Clone, Copy)]
 pub enum Answer {
     Done,
     Outbid(u32),
     Chosen(u32),
     Committed(u32),
-    Refused(u32),
 }
 
-impl Answer {
-    // The word of the answer: 0 done, 1 outbid, 2 chosen, 3 committed, 4 refused.
-    pub fn code(self) -> u32
-        ensures { result ≡ code_of self }
-    {
-        match self {
-            Answer::Done => 0,
-            Answer::Outbid(_) => 1,
-            Answer::Chosen(_) => 2,
-            Answer::Committed(_) => 3,
-            Answer::Refused(_) => 4,
-        }
+// The word of what a step answers: 0 done, 1 outbid, 2 chosen, 3 committed, 4 refused.
+pub fn code(answered: Result<Answer, Refusal>) -> u32
+    ensures { result ≡ code_of answered }
+{
+    match answered {
+        Ok(Answer::Done) => 0,
+        Ok(Answer::Outbid(_)) => 1,
+        Ok(Answer::Chosen(_)) => 2,
+        Ok(Answer::Committed(_)) => 3,
+        Err(_) => 4,
     }
+}
 
-    // The number that goes with the word.
-    pub fn number(self) -> u32
-        ensures { result ≡ number_of self }
-    {
-        match self {
-            Answer::Done => 0,
-            Answer::Outbid(ballot) => ballot,
-            Answer::Chosen(command) => command,
-            Answer::Committed(command) => command,
-            Answer::Refused(number) => number,
-        }
+// The number that goes with the word.
+pub fn number(answered: Result<Answer, Refusal>) -> u32
+    ensures { result ≡ number_of answered }
+{
+    match answered {
+        Ok(Answer::Done) => 0,
+        Ok(Answer::Outbid(ballot)) => ballot,
+        Ok(Answer::Chosen(command)) => command,
+        Ok(Answer::Committed(command)) => command,
+        Err(refusal) => refusal.number(),
     }
 }

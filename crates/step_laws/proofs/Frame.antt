@@ -3,12 +3,12 @@ use Prim.Native.Nat.{ℕ, ◌<◌}
 use mathlib.Core.Path.{◌≡◌}
 use mathlib.Core.Bool.{false}
 use mathlib.Core.List.{List}
+use Rattle.checks.specs.Checks.{left_by}
 use Rattle.state.specs.declared.Step.{Step}
 use Rattle.synod.specs.Slot.{config_of}
 use Rattle.synod.proofs.Alike.{Alike, alike_same}
 use Rattle.layout.specs.Cells.{sizes_of}
 use Rattle.range.proofs.Laws.{range_says}
-use Rattle.room.specs.declared.effect.Effect.{Effect}
 use Rattle.room.specs.Judge.{seen}
 use Rattle.room.specs.Step.{settled, stepped}
 use Rattle.room.proofs.Checks.{by_checks}
@@ -23,7 +23,7 @@ unfolding stepped settled after_at
 Slot-kept cells st t h e =
     let z = sizes_of cells in
     by_checks cells st
-    (λ (x : Effect). Alike (config_of z) (seen z cells t) (seen z (settled z cells x) t))
+    (λ x. Alike (config_of z) (seen z cells t) (seen z (left_by (settled z cells) cells x) t))
     (λ a. alike_same (config_of z) (seen z cells t))
     (λ a b. alike_same (config_of z) (seen z cells t))
     (λ a b c. alike_same (config_of z) (seen z cells t))

@@ -7,5 +7,6 @@ pub mod StepKeeps
 pub mod Seen
 pub mod SlotTie
 pub mod Lowest
+pub mod Answering
 pub mod Commits
 pub mod Frame

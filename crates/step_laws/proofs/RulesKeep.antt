@@ -5,6 +5,7 @@ use mathlib.Core.Bool.{Bool, true, false, cond}
 use mathlib.Core.List.{List}
 use native.Mathlib.Omega.{arith}
 use lib.Dec.{eqb, ltb}
+use Rattle.std.specs.Prelude.{Ok, Err}
 use Rattle.state.specs.Block.{limit}
 use Rattle.ballot.proofs.Laws.{owned_within}
 use Rattle.command.specs.Command.{is_command}
@@ -14,10 +15,8 @@ use Rattle.state.specs.declared.Block.{Block}
 use Rattle.state.specs.declared.Server.{Server}
 use Rattle.state.specs.declared.Sizes.{Sizes}
 use Rattle.state.specs.Server.{with_own, with_notes, cleared, failed, own_block}
-use Rattle.synod.specs.declared.Ruling.{Ruling}
-use Rattle.synod.specs.declared.Ruling.TheVariants.{Refused, Accepted}
 use Rattle.synod.specs.Changes.{read_bit, meeting, marking, topping, recalling, rejoining, bidding, writing, reading, proposing, agreeing}
-use Rattle.synod.specs.Rules.{ruling, offer_rule, recall_rule, rejoin_rule, bid_rule, write_rule, read_rule, finish_rule}
+use Rattle.synod.specs.Rules.{Ruling, ruling, offer_rule, recall_rule, rejoin_rule, bid_rule, write_rule, read_rule, finish_rule}
 use Rattle.synod.proofs.Rulings.{recall_cases, rejoin_cases, bid_cases, write_cases, read_cases, finish_cases}
 use Rattle.layout.specs.Places.{Fit}
 use Rattle.range.specs.Range.{masks_of, value_fits}
@@ -25,8 +24,8 @@ use Rattle.range.proofs.RecordLaws.{ServerIn, BlockIn, zero_fits, command_fits_l
 
 -- what a ruling makes of a record is in range
 abbrev pub Keeps : List ℕ → Sizes → Ruling → Type 0
-Keeps limits z (Refused n) = Unit {0}
-Keeps limits z (Accepted v a) = ServerIn limits (masks_of z) v
+Keeps limits z (Err n) = Unit {0}
+Keeps limits z (Ok (v, a)) = ServerIn limits (masks_of z) v
 
 pick_most : (t : Bool) (a b l : ℕ) → a ≤ l → b ≤ l → cond t a b ≤ l
 pick_most true a b l h k = h

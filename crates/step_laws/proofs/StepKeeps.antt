@@ -7,42 +7,28 @@ use native.Mathlib.Omega.{arith}
 use lib.ListN.{length}
 use Rattle.quorum.specs.Marks.{marked, unmarked}
 use Rattle.quorum.proofs.MaskLaws.{within_marked, within_unmarked}
+use Rattle.std.specs.Prelude.{Ok, Err}
+use Rattle.checks.specs.Checks.{left_by}
 use Rattle.state.specs.declared.Sizes.{Sizes}
 use Rattle.state.specs.declared.Step.{Step}
 use Rattle.state.specs.declared.Step.TheVariants.{Offer, Recall, Rejoin, Bid, Write, Read, Finish, Fail, DriveOff, DriveOn}
 use Rattle.state.specs.Server.{own_block}
 use Rattle.state.specs.View.{Brings, Stores, Alone, View, AtSlot, AtServer, AtDrive, view_of}
-use Rattle.synod.specs.declared.Ruling.{Ruling}
-use Rattle.synod.specs.declared.Ruling.TheVariants as said
 use Rattle.synod.specs.Arguments.{places_fit, command_fits}
-use Rattle.synod.specs.Rules.{ruling, rule_of, off_after}
+use Rattle.synod.specs.Rules.{Ruling, ruling, rule_of, off_after}
 use Rattle.layout.specs.Cells.{limits_of, sizes_of, off_of, server_of, block_of, put_server}
 use Rattle.range.specs.Range.{legal_drives, masks_of, in_range}
 use Rattle.range.proofs.Laws.{block_fits_lem, range_says, Says-range}
 use Rattle.range.proofs.RecordLaws.{ServerIn, BlockIn, server_says, block_says, drive_legal}
-use Rattle.room.specs.declared.effect.Effect.{Effect}
-use Rattle.room.specs.Judge.{recording, blocking, effect_at, rule_at, effect_of}
+use Rattle.room.specs.Judge.{rule_at, effect_of}
 use Rattle.room.specs.Step.{settled, stepped}
 use Rattle.synod.proofs.Places.{placed, InView, in_view}
 use Rattle.room.proofs.Checks.{by_checks}
 use Rattle.step_laws.proofs.RulesKeep.{Keeps, failed_in, own_in, offer_keeps, recall_keeps, rejoin_keeps, bid_keeps, write_keeps, read_Keeps, finish_keeps}
+use Rattle.step_laws.proofs.Slots.{stored}
 use Rattle.step_laws.proofs.StoresKeep.{Whole, server_kept, block_kept, off_kept, failure_kept}
 
 module _ (limits : List ℕ) (z : Sizes) (r : List ℕ) (w : Whole limits z r) where
-  record_kept
-      : (s p : ℕ) (x : Ruling) → s < z.slots → p < z.servers → Keeps limits z x → Whole limits z (settled z r (recording s p x))
-  unfolding settled
-  record_kept s p (said.Refused n) h l k = w
-  record_kept s p (said.Accepted v a) h l k = server_kept limits z r w s p v h l k
-
-  write_Kept
-      : (s d p : ℕ) (x : Ruling) → s < z.slots → d < z.drives → p < z.servers → Keeps limits z x
-      → Whole limits z (settled z r (blocking s d p x))
-  unfolding settled
-  write_Kept s d p (said.Refused n) h m l k = w
-  write_Kept s d p (said.Accepted v a) h m l k =
-      block_kept limits z (put_server z r s p v) (server_kept limits z r w s p v h l k) s d p (own_block v) h m l (own_in limits z v k)
-
   server_at_lem : (s p : ℕ) → s < z.slots → p < z.servers → ServerIn limits (masks_of z) (server_of z r s p)
   server_at_lem s p h l = server_says limits (masks_of z) (server_of z r s p) (w.range.servers s p h l)
 
@@ -80,21 +66,30 @@ module _ (limits : List ℕ) (z : Sizes) (r : List ℕ) (w : Whole limits z r) w
   rule_keeps (DriveOn d) e f = failed_in limits z
 
   -- and so does storing it
-  view_kept : (v : View) (x : Ruling) → InView z v → Keeps limits z x → Whole limits z (settled z r (effect_at v (off_after (off_of r) v) x))
+  view_kept
+      : (v : View) (off : ℕ) (x : Ruling) → off ≡ off_after (off_of r) v → InView z v → Keeps limits z x
+      → Whole limits z (stored z r v off x)
   unfolding settled
-  view_kept (AtSlot p s (Brings c)) x a k = record_kept s p x a.slot a.server k
-  view_kept (AtSlot p s (Stores d)) x a k = write_Kept s d p x a.slot a.drive a.server k
-  view_kept (AtSlot p s Alone) x a k = record_kept s p x a.slot a.server k
-  view_kept (AtServer p) x a k = failure_kept limits z r w p a z.slots (omega arith)
-  view_kept (AtDrive d true) x a k =
-      off_kept limits z r w (unmarked (off_of r) d) (within_unmarked (off_of r) (legal_drives z) d w.range.off)
-  view_kept (AtDrive d false) x a k =
-      off_kept limits z r w (marked (off_of r) d)
-      (within_marked (off_of r) (legal_drives z) d w.range.off (drive_legal z w.range.row.fit d a))
+  view_kept (AtSlot p s k) off (Err n) e a i = w
+  view_kept (AtSlot p s (Brings c)) off (Ok (v, b)) e a i = server_kept limits z r w s p v a.slot a.server i
+  view_kept (AtSlot p s (Stores d)) off (Ok (v, b)) e a i =
+      block_kept limits z (put_server z r s p v) (server_kept limits z r w s p v a.slot a.server i) s d p (own_block v) a.slot
+      a.drive a.server (own_in limits z v i)
+  view_kept (AtSlot p s Alone) off (Ok (v, b)) e a i = server_kept limits z r w s p v a.slot a.server i
+  view_kept (AtServer p) off (Err n) e a i = w
+  view_kept (AtServer p) off (Ok x) e a i = failure_kept limits z r w p a z.slots (omega arith)
+  view_kept (AtDrive d on) off (Err n) e a i = w
+  view_kept (AtDrive d true) off (Ok x) e a i =
+      rw e
+      (off_kept limits z r w (unmarked (off_of r) d) (within_unmarked (off_of r) (legal_drives z) d w.range.off))
+  view_kept (AtDrive d false) off (Ok x) e a i =
+      rw e
+      (off_kept limits z r w (marked (off_of r) d)
+      (within_marked (off_of r) (legal_drives z) d w.range.off (drive_legal z w.range.row.fit d a)))
 
-  pub effect_kept : (st : Step) → places_fit z st ≡ true → command_fits limits st ≡ true → Whole limits z (settled z r (effect_of z r st))
+  pub effect_kept : (st : Step) → places_fit z st ≡ true → command_fits limits st ≡ true → Whole limits z (left_by (settled z r) r (effect_of z r st))
   unfolding effect_of
-  effect_kept st e f = view_kept (view_of st) (ruling (rule_at z r st)) (in_view z st e) (rule_keeps st e f)
+  effect_kept st e f = view_kept (view_of st) _ (ruling (rule_at z r st)) refl (in_view z st e) (rule_keeps st e f)
 
 whole_of : (r : List ℕ) → in_range r ≡ true → Whole (limits_of r) (sizes_of r) r
 whole_of r e = record { range = range_says r e; sizes = refl }
@@ -103,7 +98,7 @@ whole_of r e = record { range = range_says r e; sizes = refl }
 pub step_whole : (r : List ℕ) (st : Step) → in_range r ≡ true → Whole (limits_of r) (sizes_of r) (stepped r st)
 unfolding stepped settled
 step_whole r st i =
-    by_checks r st (λ (e : Effect). Whole (limits_of r) (sizes_of r) (settled (sizes_of r) r e))
+    by_checks r st (λ e. Whole (limits_of r) (sizes_of r) (left_by (settled (sizes_of r) r) r e))
     (λ a. whole_of r i)
     (λ a b. whole_of r i)
     (λ a b c. whole_of r i)

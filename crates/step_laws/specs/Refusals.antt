@@ -1,15 +1,14 @@
 -- The refusals that a step can get (SPEC, "Who can bring which number"): read off its checks and its rule, and the table of
 -- their numbers, which is said here by itself.
-use Rattle.std.specs.Prelude.{ℕ, true, List, [], ◌∷◌}
-use Rattle.checks.specs.Refusals.{Refusal, refusals_in, refusals_of}
+use Rattle.std.specs.Prelude.{ℕ, List, [], ◌∷◌}
+use Rattle.checks.specs.Refusals.{Possible, refusals_of}
 use Rattle.state.specs.declared.Step.{Step}
 use Rattle.state.specs.declared.Step.TheVariants.{Offer, Recall, Rejoin, Bid, Write, Read, Finish, Fail, DriveOff, DriveOn}
-use Rattle.layout.specs.Cells.{sizes_of}
-use Rattle.room.specs.Judge.{rule_at, step_checks}
+use Rattle.room.specs.Judge.{step_checks}
 
 -- every refusal of a step, in the order of its checks
-unfoldable pub refusals : List ℕ → Step → List Refusal
-refusals cells st = refusals_in true (step_checks cells st) (refusals_of (rule_at (sizes_of cells) cells st))
+unfoldable pub refusals : List ℕ → Step → List Possible
+refusals cells st = refusals_of (step_checks cells st)
 
 -- the numbers of each kind's own rule
 unfoldable pub own_numbers : Step → List ℕ

@@ -9,11 +9,10 @@ use Rattle.state.specs.declared.Step.{Step}
 use Rattle.state.specs.declared.Step.TheVariants.{Offer, Recall, Rejoin, Bid, Write, Read, Finish, Fail, DriveOff, DriveOn}
 use Rattle.state.specs.Server.{own_block}
 use Rattle.state.specs.View.{Brings, Stores, Alone, View, AtSlot, AtServer, AtDrive, view_of}
-use Rattle.synod.specs.declared.Ruling.{Ruling}
-use Rattle.synod.specs.declared.Ruling.TheVariants.{Refused, Accepted}
+use Rattle.std.specs.Prelude.{Ok, Err}
 use Rattle.synod.specs.Arguments.{places_fit}
 use Rattle.synod.proofs.Machine.{with_record, with_block, slot_after, ruled, after}
-use Rattle.synod.specs.Rules.{ruling, offer_rule, recall_rule, rejoin_rule, bid_rule, write_rule, read_rule, finish_rule, rule_of}
+use Rattle.synod.specs.Rules.{Ruling, ruling, offer_rule, recall_rule, rejoin_rule, bid_rule, write_rule, read_rule, finish_rule, rule_of}
 use Rattle.synod.specs.Slot.{Node, Slot, Config, config_of, updated}
 use Rattle.synod.proofs.Places.{at_server, at_drive, at_other}
 use Rattle.synod.proofs.Update.{both_everywhere}
@@ -62,8 +61,8 @@ module _ {c : Config} {σ τ : Slot} (like : Alike c σ τ) where
 
   pub after_alike : (st : Step) (r : Ruling) → Alike c (after σ st r) (after τ st r)
   unfolding after
-  after_alike st (Refused n) = like
-  after_alike st (Accepted v a) = view_alike (view_of st) v
+  after_alike st (Err n) = like
+  after_alike st (Ok (v, a)) = view_alike (view_of st) v
 
 module _ (z : Sizes) (off : ℕ) {σ τ : Slot} (like : Alike (config_of z) σ τ) where
   own : (p : ℕ) → p < z.servers → (σ p).own ≡ (τ p).own

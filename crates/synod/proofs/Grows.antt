@@ -7,9 +7,9 @@ use Rattle.state.specs.declared.Step.{Step}
 use Rattle.state.specs.View.{Deed, Brings, Stores, Alone, View, AtSlot, AtServer, AtDrive, view_of}
 use Rattle.state.specs.declared.Answer.{Answer}
 use Rattle.state.specs.declared.Answer.TheVariants as answer
-use Rattle.synod.specs.declared.Ruling.{Ruling}
-use Rattle.synod.specs.declared.Ruling.TheVariants.{Refused, Accepted}
+use Rattle.std.specs.Prelude.{Ok, Err}
 use Rattle.synod.proofs.Past.{Ghost, note_offer, note_proposal, note_commit, commit_ballot, heard, note_deed, ghost_after, noted}
+use Rattle.synod.specs.Rules.{Ruling}
 use Rattle.synod.specs.Slot.{Node, Slot, Config}
 use Rattle.synod.proofs.Ghosts.{Offered, Proposed, Committed, Known, Agreed}
 use Rattle.synod.proofs.One.{Sound}
@@ -84,7 +84,6 @@ heard_grows g mbal answer.Done = same g
 heard_grows g mbal (answer.Outbid b) = same g
 heard_grows g mbal (answer.Chosen c) = with_proposal g mbal c
 heard_grows g mbal (answer.Committed c) = with_commit g (commit_ballot mbal c g.commits) c
-heard_grows g mbal (answer.Refused n) = same g
 
 deed_grows : {g h : Ghost} (k : Deed) → Grows g h → Grows g (note_deed k h)
 deed_grows (Brings c) x =
@@ -100,5 +99,5 @@ view_grows g σ (AtDrive d on) a = same g
 -- what a step adds takes nothing away
 pub noted_grows : (g : Ghost) (σ : Slot) (st : Step) (r : Ruling) → Grows g (noted g σ st r)
 unfolding noted
-noted_grows g σ st (Refused n) = same g
-noted_grows g σ st (Accepted v a) = view_grows g σ (view_of st) a
+noted_grows g σ st (Err n) = same g
+noted_grows g σ st (Ok (v, a)) = view_grows g σ (view_of st) a

@@ -10,12 +10,12 @@ use Rattle.state.specs.declared.Step.{Step}
 use Rattle.state.specs.declared.Step.TheVariants.{Offer, Recall, Rejoin, Bid, Write, Read, Finish, Fail, DriveOff, DriveOn}
 use Rattle.state.specs.declared.Answer.TheVariants.{Done}
 use Rattle.state.specs.Server.{failed}
-use Rattle.synod.specs.declared.Ruling.{Ruling}
-use Rattle.synod.specs.declared.Ruling.TheVariants.{Refused, Accepted}
+use Rattle.std.specs.Prelude.{Ok, Err}
+use Rattle.checks.specs.declared.Refusal.{Refusal}
 use Rattle.synod.specs.Arguments.{places_fit}
 use Rattle.synod.proofs.Machine.{ruled, after, Fits}
 use Rattle.synod.proofs.Past.{Ghost, noted, heard}
-use Rattle.synod.specs.Rules.{ruling, offer_rule, recall_rule, rejoin_rule, bid_rule, write_rule, read_rule, finish_rule, rule_of}
+use Rattle.synod.specs.Rules.{Ruling, ruling, offer_rule, recall_rule, rejoin_rule, bid_rule, write_rule, read_rule, finish_rule, rule_of}
 use Rattle.synod.specs.Slot.{Slot, Config, config_of}
 use Rattle.synod.proofs.Places.{at_server, at_drive, at_other}
 use Rattle.synod.proofs.Rulings.{recall_cases, rejoin_cases, bid_cases, write_cases, read_cases, finish_cases}
@@ -36,7 +36,7 @@ abbrev Keeps : Config → Ghost → Slot → Step → Ruling → Type 0
 Keeps c g σ st r = Invariant c (noted g σ st r) (after σ st r)
 
 module _ {c : Config} {g : Ghost} {σ : Slot} (inv : Invariant c g σ) where
-  refused : (st : Step) (n : ℕ) → Keeps c g σ st (Refused n)
+  refused : (st : Step) (n : Refusal) → Keeps c g σ st (Err n)
   unfolding noted after
   refused st n = inv
 
@@ -87,7 +87,7 @@ module _ {c : Config} {g : Ghost} {σ : Slot} (inv : Invariant c g σ) where
         (record { inv = inv; within = lp; one = one; full = completes c (σ p).own p most; some = some }))
         (λ two most. commit_kept inv p lp two (completes c (σ p).own p most))
 
-    fail_kept : Keeps c g σ (Fail p) (Accepted failed Done)
+    fail_kept : Keeps c g σ (Fail p) (Ok (failed, Done))
     unfolding noted after heard
     fail_kept = frame inv p lp _ (fail_change inv p lp)
 

@@ -6,9 +6,8 @@ use Rattle.state.specs.declared.Step.{Step}
 use Rattle.state.specs.Block.{blank}
 use Rattle.state.specs.Server.{failed, own_block}
 use Rattle.state.specs.View.{Deed, Brings, Stores, Alone, View, AtSlot, AtServer, AtDrive, view_of}
-use Rattle.synod.specs.declared.Ruling.{Ruling}
-use Rattle.synod.specs.declared.Ruling.TheVariants.{Refused, Accepted}
-use Rattle.synod.specs.Rules.{ruling, rule_of}
+use Rattle.std.specs.Prelude.{Ok, Err}
+use Rattle.synod.specs.Rules.{Ruling, ruling, rule_of}
 use Rattle.synod.specs.Slot.{Node, Slot, Config, updated}
 
 -- the servers and drives of a room are few
@@ -48,8 +47,8 @@ slot_after σ (AtDrive d on) v = σ
 
 -- what the step makes of the slot, given what its rule says
 abbrev pub after_view : Slot → View → Ruling → Slot
-after_view σ w (Refused n) = σ
-after_view σ w (Accepted v a) = slot_after σ w v
+after_view σ w (Err n) = σ
+after_view σ w (Ok (v, a)) = slot_after σ w v
 
 unfoldable pub after : Slot → Step → Ruling → Slot
 after σ st x = after_view σ (view_of st) x

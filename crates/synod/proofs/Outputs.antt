@@ -13,11 +13,10 @@ use Rattle.state.specs.declared.Answer.TheVariants as answer
 use Rattle.state.specs.Answers.{code_of}
 use Rattle.state.specs.Server.{output_of, offer_of}
 use Rattle.state.specs.View.{Brings, Stores, Alone, View, AtSlot, AtServer, AtDrive, view_of}
-use Rattle.synod.specs.declared.Ruling.{Ruling}
-use Rattle.synod.specs.declared.Ruling.TheVariants.{Refused, Accepted}
+use Rattle.std.specs.Prelude.{Ok, Err}
 use Rattle.synod.specs.Changes.{marking, meeting, topping, recalling, rejoining, bidding, writing, reading, agreeing, proposing}
 use Rattle.synod.proofs.Machine.{ruled, after}
-use Rattle.synod.specs.Rules.{offer_rule, rule_of, recall_rule, rejoin_rule, bid_rule, write_rule, outbid_rule, read_rule, finish_rule}
+use Rattle.synod.specs.Rules.{Ruling, offer_rule, rule_of, recall_rule, rejoin_rule, bid_rule, write_rule, outbid_rule, read_rule, finish_rule}
 use Rattle.synod.specs.Slot.{Node, Slot, Config, updated}
 use Rattle.checks.proofs.CheckLaws.{AllGive, all_give}
 use Rattle.synod.proofs.Rulings.{recall_cases, rejoin_cases, bid_cases, write_cases, read_cases, finish_cases}
@@ -29,7 +28,6 @@ told out p answer.Done = out
 told out p (answer.Outbid b) = out
 told out p (answer.Chosen c) = out
 told out p (answer.Committed c) = updated out p c
-told out p (answer.Refused n) = out
 
 -- the outputs after a step, from those before it
 abbrev pub outputs_at : (ℕ → ℕ) → View → Answer → ℕ → ℕ
@@ -38,8 +36,8 @@ outputs_at out (AtServer p) a = updated out p 0
 outputs_at out (AtDrive d on) a = out
 
 unfoldable pub outputs_after : (ℕ → ℕ) → Step → Ruling → ℕ → ℕ
-outputs_after out st (Refused n) = out
-outputs_after out st (Accepted v a) = outputs_at out (view_of st) a
+outputs_after out st (Err n) = out
+outputs_after out st (Ok (v, a)) = outputs_at out (view_of st) a
 
 -- the offers after a step, from those before it
 abbrev pub offers_at : (ℕ → ℕ) → View → ℕ → ℕ
@@ -50,8 +48,8 @@ offers_at offer (AtServer p) = updated offer p 0
 offers_at offer (AtDrive d on) = offer
 
 unfoldable pub offers_after : (ℕ → ℕ) → Step → Ruling → ℕ → ℕ
-offers_after offer st (Refused n) = offer
-offers_after offer st (Accepted v a) = offers_at offer (view_of st)
+offers_after offer st (Err n) = offer
+offers_after offer st (Ok (v, a)) = offers_at offer (view_of st)
 
 abbrev pub outputs : Slot → ℕ → ℕ
 outputs σ q = output_of (σ q).own
@@ -109,7 +107,7 @@ module _ (c : Config) (off : ℕ) (σ : Slot) (q : ℕ) where
   outputs_told (DriveOn d) = refl
 
   -- where every end of the step's rule leaves the offers as its view tells
-  offer_ends : (st : Step) → AllGive (TellsOffers σ st q) (rule_of c off σ st)
+  offer_ends : (st : Step) → AllGive (λ x. TellsOffers σ st q (Ok x)) (rule_of c off σ st)
   unfolding rule_of after offers_after offer_rule recall_rule rejoin_rule bid_rule write_rule outbid_rule read_rule finish_rule marking meeting topping recalling rejoining bidding writing reading proposing agreeing
   offer_ends (Offer p s v) = changed offer_of σ p _ q
   offer_ends (Recall p s d) = unchanged offer_of σ p _ refl q
@@ -125,12 +123,12 @@ module _ (c : Config) (off : ℕ) (σ : Slot) (q : ℕ) where
 
   pub offers_told : (st : Step) → TellsOffers σ st q (ruled c off σ st)
   unfolding after offers_after
-  offers_told st = all_give Refused (TellsOffers σ st q) (λ n. refl) (rule_of c off σ st) (offer_ends st)
+  offers_told st = all_give (TellsOffers σ st q) (λ n. refl) (rule_of c off σ st) (offer_ends st)
 
 -- 0 for done to 3 for committed; 4 for a refusal
 abbrev pub word_of : Ruling → ℕ
-word_of (Refused n) = 4
-word_of (Accepted v a) = code_of a
+word_of (Err n) = 4
+word_of (Ok (v, a)) = code_of (Ok a)
 
 -- the server that acts; 0 where there is none
 abbrev pub view_server : View → ℕ

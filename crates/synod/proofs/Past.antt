@@ -7,8 +7,8 @@ use Rattle.state.specs.declared.Step.{Step}
 use Rattle.state.specs.declared.Answer.{Answer}
 use Rattle.state.specs.declared.Answer.TheVariants as answer
 use Rattle.state.specs.View.{Deed, Brings, Stores, Alone, View, AtSlot, AtServer, AtDrive, view_of}
-use Rattle.synod.specs.declared.Ruling.{Ruling}
-use Rattle.synod.specs.declared.Ruling.TheVariants.{Refused, Accepted}
+use Rattle.std.specs.Prelude.{Ok, Err}
+use Rattle.synod.specs.Rules.{Ruling}
 use Rattle.synod.specs.Slot.{Slot}
 
 -- a command and the ballot in which it was tried
@@ -49,7 +49,6 @@ heard g mbal answer.Done = g
 heard g mbal (answer.Outbid b) = g
 heard g mbal (answer.Chosen c) = note_proposal mbal c g
 heard g mbal (answer.Committed c) = note_commit (commit_ballot mbal c g.commits) c g
-heard g mbal (answer.Refused n) = g
 
 -- what a deed adds
 abbrev pub note_deed : Deed → Ghost → Ghost
@@ -64,5 +63,5 @@ ghost_after g σ (AtDrive d on) a = g
 
 -- what the step and its ruling add
 unfoldable pub noted : Ghost → Slot → Step → Ruling → Ghost
-noted g σ st (Refused n) = g
-noted g σ st (Accepted v a) = ghost_after g σ (view_of st) a
+noted g σ st (Err n) = g
+noted g σ st (Ok (v, a)) = ghost_after g σ (view_of st) a

@@ -1,10 +1,10 @@
 -- The ten rules (SPEC, "The ten steps"): for each kind its conditions in the order of their numbers, then its effect. The
 -- record is taken as it stands, reached by a run or not.
-use Rattle.std.specs.Prelude.{ℕ, Bool, true, false, not, ◌&&◌, ◌||◌, cond, eqb, ltb}
+use Rattle.std.specs.Prelude.{ℕ, Bool, true, false, not, ◌&&◌, ◌||◌, cond, eqb, ltb, Option, is_some, unwrap_or, Result}
+use Rattle.checks.specs.declared.Refusal.{Refusal}
+use Rattle.checks.specs.declared.Refusal.TheVariants.{NotOwnBallot, WrongPhase, DriveIsOff, NotWritten, NoMajority, BallotTooLow, NothingToTry, BallotsSpent}
 use Rattle.checks.specs.Checks.{Checked, Must, Either, Gives, outcome}
 use Rattle.ballot.specs.Ballot.{owned, next_own}
-use Rattle.ballot.specs.declared.Next.{Next}
-use Rattle.ballot.specs.declared.Next.TheVariants.{Ballot, Spent}
 use Rattle.quorum.specs.Marks.{stands, marked, unmarked}
 use Rattle.quorum.specs.Sets.{all_below, majority}
 use Rattle.state.specs.declared.Block.{Block}
@@ -15,22 +15,23 @@ use Rattle.state.specs.declared.Answer.{Answer}
 use Rattle.state.specs.declared.Answer.TheVariants.{Done, Outbid, Chosen, Committed}
 use Rattle.state.specs.Server.{with_offer, failed}
 use Rattle.state.specs.View.{View, AtSlot, AtServer, AtDrive}
-use Rattle.synod.specs.declared.Ruling.{Ruling}
-use Rattle.synod.specs.declared.Ruling.TheVariants.{Refused, Accepted}
 use Rattle.synod.specs.Changes.{read_bit, recalling, rejoining, bidding, writing, reading, proposing, agreeing}
 use Rattle.synod.specs.Slot.{Slot, Config}
 
 -- A rule gives the record of the step's server as it becomes, and the answer. A Write puts the own block of that record
 -- on its drive too.
 abbrev pub Rule : Type 0
-Rule = Checked Ruling
+Rule = Checked (Server × Answer)
 
 abbrev pub does : Server → Answer → Rule
-does v a = Gives (Accepted v a)
+does v a = Gives (v, a)
 
--- what the rule says
+-- what the rule says: that, or the refusal
+abbrev pub Ruling : Type 0
+Ruling = Result (Server × Answer) Refusal
+
 abbrev pub ruling : Rule → Ruling
-ruling = outcome Refused
+ruling = outcome
 
 -- phase 1 or 2
 abbrev pub balloting : Server → Bool
@@ -63,46 +64,37 @@ offer_rule v command = does (with_offer v command) Done
 -- 2 Recall, phase 0; off is the cell of off marks, b server p's block on drive d
 unfoldable pub recall_rule : ℕ → Server → Block → ℕ → ℕ → Rule
 recall_rule off v b p d =
-    Must (eqb v.phase 0) 7
-    (Must (not (stands off d)) 8
+    Must (eqb v.phase 0) WrongPhase
+    (Must (not (stands off d)) DriveIsOff
     (does (recalling v b p d) Done))
 
 -- 3 Rejoin, phase 0, a majority recalled, the ballot p's and above top
 unfoldable pub rejoin_rule : ℕ → ℕ → Server → ℕ → ℕ → Rule
 rejoin_rule servers drives v p ballot =
-    Must (owned servers p ballot) 6
-    (Must (eqb v.phase 0) 7
-    (Must (majority drives (recalled_on v p)) 10
-    (Must (ltb v.top ballot) 11
+    Must (owned servers p ballot) NotOwnBallot
+    (Must (eqb v.phase 0) WrongPhase
+    (Must (majority drives (recalled_on v p)) NoMajority
+    (Must (ltb v.top ballot) BallotTooLow
     (does (rejoining v ballot) Done))))
 
 -- 4 Bid, phase 1 or 2, the ballot p's and above the own mbal
 unfoldable pub bid_rule : ℕ → Server → ℕ → ℕ → Rule
 bid_rule servers v p ballot =
-    Must (owned servers p ballot) 6
-    (Must (balloting v) 7
-    (Must (ltb v.mbal ballot) 11
+    Must (owned servers p ballot) NotOwnBallot
+    (Must (balloting v) WrongPhase
+    (Must (ltb v.mbal ballot) BallotTooLow
     (does (bidding v ballot) Done)))
 
 -- 5 Write, phase 1, 2 or 3
 unfoldable pub write_rule : ℕ → Server → ℕ → Rule
 write_rule off v d =
-    Must (joined v) 7
-    (Must (not (stands off d)) 8
+    Must (joined v) WrongPhase
+    (Must (not (stands off d)) DriveIsOff
     (does (writing v d) Done))
 
--- whether no ballot is left, and the ballot where one is
-abbrev pub is_spent : Next → Bool
-is_spent (Ballot b) = false
-is_spent Spent = true
-
-abbrev pub ballot_in : Next → ℕ
-ballot_in (Ballot b) = b
-ballot_in Spent = 0
-
 -- outbid by a block with the ballot found; next is the server's least ballot above it
-unfoldable pub outbid_rule : Server → ℕ → Next → Rule
-outbid_rule v found next = Must (not (is_spent next)) 13 (does (bidding v (ballot_in next)) (Outbid found))
+unfoldable pub outbid_rule : Server → ℕ → Option ℕ → Rule
+outbid_rule v found next = Must (is_some next) BallotsSpent (does (bidding v (unwrap_or next 0)) (Outbid found))
 
 -- the slot is settled with the command
 abbrev pub agree_rule : Server → ℕ → Rule
@@ -116,9 +108,9 @@ learn_rule v b = agree_rule v b.done
 -- do the ballots count
 unfoldable pub read_rule : ℕ → ℕ → Server → Block → ℕ → ℕ → ℕ → Rule
 read_rule servers off v b p d q =
-    Must (balloting v) 7
-    (Must (not (stands off d)) 8
-    (Must (stands v.written d) 9
+    Must (balloting v) WrongPhase
+    (Must (not (stands off d)) DriveIsOff
+    (Must (stands v.written d) NotWritten
     (Either (not (eqb b.done 0))
     (learn_rule v b)
     (Either (ltb b.mbal v.mbal)
@@ -136,10 +128,10 @@ commit_rule v = agree_rule v v.inp
 -- 7 Finish, phase 1 or 2, a majority of drives written with every other server's block read there
 unfoldable pub finish_rule : ℕ → ℕ → Server → ℕ → Rule
 finish_rule servers drives v p =
-    Must (balloting v) 7
-    (Must (majority drives (complete_on servers v p)) 10
+    Must (balloting v) WrongPhase
+    (Must (majority drives (complete_on servers v p)) NoMajority
     (Either (eqb v.phase 1)
-    (Must (not (eqb (command_of v) 0)) 12 (does (proposing v (command_of v)) (Chosen (command_of v))))
+    (Must (not (eqb (command_of v) 0)) NothingToTry (does (proposing v (command_of v)) (Chosen (command_of v))))
     (commit_rule v)))
 
 -- 8 Fail, in every slot: nothing is left of the record

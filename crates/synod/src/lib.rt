@@ -1,11 +1,8 @@
 // The algorithm on values.
 #![tactic(auto)]
 
+use checks::Refusal;
 use state::{Answer, Server};
 
-// What a rule says: a refusal with its number, or the record as it becomes, with the answer.
-#[derive(Clone, Copy)]
-pub enum Ruling {
-    Refused(u32),
-    Accepted(Server, Answer),
-}
+// What a rule says: the record of the step's server as it becomes, with the answer, or a refusal.
+pub type Ruling = Result<(Server, Answer), Refusal>;

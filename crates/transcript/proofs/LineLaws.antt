@@ -10,9 +10,9 @@ use lib.Seq.{drop-drop}
 use borrow.Rule.Slice.PartMut.{put_mid}
 use borrow.Author.Tests.{le-leb, leb-true}
 use Rattle.lemmas.proofs.Tests.{same_test}
-use Rattle.state.specs.declared.Answer.{Answer}
-use Rattle.state.specs.declared.Answer.TheVariants.{Done, Outbid, Chosen, Committed, Refused}
-use Rattle.state.specs.Answers.{number_of}
+use Rattle.std.specs.Prelude.{Ok, Err}
+use Rattle.state.specs.declared.Answer.TheVariants.{Done, Outbid, Chosen, Committed}
+use Rattle.state.specs.Answers.{Answered, number_of}
 use Rattle.transcript.specs.Lines.{word_of, step_line, server_line, open_line, line_max, placed, has_room, Printed}
 use Rattle.transcript.proofs.DigitLaws.{digits_ten}
 
@@ -61,14 +61,14 @@ with_room {l} {m} {at} {next} {line} p h =
     (p.place ∙ ap (λ (b : Bool). cond b (at + length line) at) room, p.contents ∙ ap (λ (b : Bool). cond b (placed l at line) l) room)
 
 -- no line is longer than line_max
-pub word_length : (a : Answer) → length (word_of a) ≤ 9
-word_length Done = omega arith
-word_length (Outbid b) = omega arith
-word_length (Chosen c) = omega arith
-word_length (Committed c) = omega arith
-word_length (Refused n) = omega arith
+pub word_length : (a : Answered) → length (word_of a) ≤ 9
+word_length (Ok Done) = omega arith
+word_length (Ok (Outbid b)) = omega arith
+word_length (Ok (Chosen c)) = omega arith
+word_length (Ok (Committed c)) = omega arith
+word_length (Err n) = omega arith
 
-pub step_max_lem : (index : ℕ) (a : Answer) → index < 2 ^ 32 → number_of a < 2 ^ 32 → length (step_line index a) ≤ line_max
+pub step_max_lem : (index : ℕ) (a : Answered) → index < 2 ^ 32 → number_of a < 2 ^ 32 → length (step_line index a) ≤ line_max
 unfolding step_line
 step_max_lem index a h k = simp length-append (omega (arith, digits_ten index h, digits_ten (number_of a) k, word_length a))
 

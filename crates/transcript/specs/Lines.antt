@@ -1,25 +1,24 @@
 -- The lines that rehearse prints (SPEC, "Step records"), and where they go in a buffer.
-use Rattle.std.specs.Prelude.{ℕ, ◌+◌, ◌≡◌, Bool, cond, List, ◌++◌, length, take, drop, leb, codes}
-use Rattle.state.specs.declared.Answer.{Answer}
-use Rattle.state.specs.declared.Answer.TheVariants.{Done, Outbid, Chosen, Committed, Refused}
-use Rattle.state.specs.Answers.{number_of}
+use Rattle.std.specs.Prelude.{ℕ, ◌+◌, ◌≡◌, Bool, cond, List, ◌++◌, length, take, drop, leb, codes, Ok, Err}
+use Rattle.state.specs.declared.Answer.TheVariants.{Done, Outbid, Chosen, Committed}
+use Rattle.state.specs.Answers.{Answered, number_of}
 use Rattle.transcript.specs.Text.{digits}
 use Rattle.transcript.specs.declared.Transcript.{Transcript}
 
 -- the word of an answer
-abbrev pub word_of : Answer → List ℕ
-word_of Done = codes "done"
-word_of (Outbid ballot) = codes "outbid"
-word_of (Chosen command) = codes "chosen"
-word_of (Committed command) = codes "committed"
-word_of (Refused number) = codes "refused"
+abbrev pub word_of : Answered → List ℕ
+word_of (Ok Done) = codes "done"
+word_of (Ok (Outbid ballot)) = codes "outbid"
+word_of (Ok (Chosen command)) = codes "chosen"
+word_of (Ok (Committed command)) = codes "committed"
+word_of (Err refusal) = codes "refused"
 
 -- the word and the number, each after a space: " committed 66825"
-abbrev pub answer_text : Answer → List ℕ
+abbrev pub answer_text : Answered → List ℕ
 answer_text answer = codes " " ++ word_of answer ++ codes " " ++ digits (number_of answer)
 
 -- "7 committed 66825"
-unfoldable pub step_line : ℕ → Answer → List ℕ
+unfoldable pub step_line : ℕ → Answered → List ℕ
 step_line index answer = digits index ++ answer_text answer ++ codes "\n"
 
 -- "server 0 taken 1 skipped 0"

@@ -7,6 +7,7 @@ ghost use Rattle.transcript.specs.Text.{digits};
 ghost use Rattle.transcript.specs.Lines.{answer_text, step_line, server_line, open_line, line_max, has_room, Prints};
 
 use arrayvec::ArrayString;
+use checks::Refusal;
 use itoa::Buffer;
 use state::Answer;
 
@@ -37,7 +38,7 @@ impl<'a> Transcript<'a> {
 
     // The line of a step: its index, the answer word, the number.
     #[tactic(auto, unfolding(crate::specs::Lines::step_line))]
-    pub fn step_line(&mut self, index: u32, answer: Answer)
+    pub fn step_line(&mut self, index: u32, answer: Result<Answer, Refusal>)
         ensures { Prints self.old (step_line index answer) self.new }
     {
         let mut line = Line::new();
@@ -93,17 +94,17 @@ impl<'a> Transcript<'a> {
 }
 
 // The word and the number of an answer, each after a space: 21 bytes at most.
-fn push_answer(line: &mut Line, answer: Answer)
+fn push_answer(line: &mut Line, answer: Result<Answer, Refusal>)
     requires { array_string_len line.old + 21 ≤ line_max }
     ensures pushed { line.new.bytes ≡ line.old.bytes ++ answer_text answer }
     ensures upper_bound { array_string_len line.new ≤ array_string_len line.old + 21 }
 {
     match answer {
-        Answer::Done => push_field(line, " done ", 0),
-        Answer::Outbid(ballot) => push_field(line, " outbid ", ballot),
-        Answer::Chosen(command) => push_field(line, " chosen ", command),
-        Answer::Committed(command) => push_field(line, " committed ", command),
-        Answer::Refused(number) => push_field(line, " refused ", number),
+        Ok(Answer::Done) => push_field(line, " done ", 0),
+        Ok(Answer::Outbid(ballot)) => push_field(line, " outbid ", ballot),
+        Ok(Answer::Chosen(command)) => push_field(line, " chosen ", command),
+        Ok(Answer::Committed(command)) => push_field(line, " committed ", command),
+        Err(refusal) => push_field(line, " refused ", refusal.number()),
     }
 }
 

@@ -7,13 +7,15 @@ use lib.ListN.{get_or, take, replicate}
 use lib.Dec.{eqb}
 use borrow.Author.Tests.{eqb-true, eqb-false}
 use Rattle.lemmas.proofs.Tests.{by_test}
+use Rattle.std.specs.Prelude.{Result, Ok}
+use Rattle.checks.specs.declared.Refusal.{Refusal}
+use Rattle.checks.specs.Refusals.{refusal_in}
 use Rattle.layout.specs.Places.{room_length}
-use Rattle.room.specs.Open.{open_refusal, opening}
+use Rattle.room.specs.Open.{opening}
 use Rattle.catalogue.specs.Fold.{Entries, folded, start}
 use Rattle.catalogue.specs.Call.{catalogue_of, catalogue_cells}
-use Rattle.catalogue.specs.Listing.{taken_of, skipped_of}
-use Rattle.catalogue.specs.declared.Listing.{Listing}
-use Rattle.catalogue.specs.declared.Listing.TheVariants.{Counted}
+use Rattle.catalogue.specs.Listing.{counts, taken_of, skipped_of}
+use Rattle.catalogue.specs.declared.Counts.{Counts}
 use Rattle.starred.specs.Runs.{new_room}
 use Rattle.history.specs.Calls.{Event}
 use Rattle.history.proofs.Always.{at_last}
@@ -24,7 +26,7 @@ use Rattle.witness.specs.Example.{Example, calls_of, history_of, last_room, said
 -- by server below n: what its catalogue answers, and the cells that it leaves
 abbrev Results : ℕ → Type 0
 Results zero = Unit {0}
-Results (suc n) = Results n × Listing × List ℕ
+Results (suc n) = Results n × Result Counts Refusal × List ℕ
 
 -- as the run gives them
 abbrev results_of : Example → (n : ℕ) → Results n
@@ -34,7 +36,7 @@ results_of e (suc n) = (results_of e n, catalogue_of (last_room e) n lent, catal
 -- as the example tells them
 abbrev results_told : Example → (n : ℕ) → Results n
 results_told e zero = tt
-results_told e (suc n) = (results_told e n, Counted (get_or e.taken n 0) (get_or e.skipped n 0), get_or e.left n [])
+results_told e (suc n) = (results_told e n, Ok (counts (get_or e.taken n 0) (get_or e.skipped n 0)), get_or e.left n [])
 
 listed : (e : Example) (n : ℕ) → results_of e n ≡ results_told e n → (p : ℕ) → p < n → Lists e p
 listed e zero a p h = absurd (omega arith)
@@ -55,7 +57,7 @@ record Values (n : ℕ) : Type 0 where
 abbrev values_of : (e : Example) → Values e.sizes.servers
 values_of e =
     record {
-      opens = open_refusal (opening e.sizes (replicate (room_length e.sizes) 9));
+      opens = refusal_in (opening e.sizes (replicate (room_length e.sizes) 9));
       answers = history_of e;
       chosen = said chosen_code e.run;
       committed = said committed_code e.run;

@@ -1,10 +1,10 @@
 -- What an example says: a run in a room just opened, its answers, and what demand 3 makes of them.
-use Rattle.std.specs.Prelude.{ℕ, ◌<◌, cond, List, [], ◌∷◌, ◌≡◌, eqb, get_or, take, replicate}
+use Rattle.std.specs.Prelude.{ℕ, ◌<◌, cond, List, [], ◌∷◌, ◌≡◌, eqb, get_or, take, replicate, Ok}
 use Rattle.state.specs.declared.Sizes.{Sizes}
 use Rattle.state.specs.Answers.{code_of, number_of}
 use Rattle.catalogue.specs.Call.{catalogue_of, catalogue_cells}
 use Rattle.catalogue.specs.Fold.{pieces, folded, start}
-use Rattle.catalogue.specs.declared.Listing.TheVariants.{Counted}
+use Rattle.catalogue.specs.Listing.{counts}
 use Rattle.starred.specs.Runs.{new_room}
 use Rattle.history.specs.Calls.{Call, Steps, Asks, Puts, Event, Took, Asked, Put, as_step}
 use Rattle.history.specs.Run.{ran, history}
@@ -59,7 +59,7 @@ lent = replicate pieces 9
 
 -- server p's catalogue at the end, as computed
 pub record Lists (e : Example) (p : ℕ) : Type 0 where
-  pub answer : catalogue_of (last_room e) p lent ≡ Counted (get_or e.taken p 0) (get_or e.skipped p 0)
+  pub answer : catalogue_of (last_room e) p lent ≡ Ok (counts (get_or e.taken p 0) (get_or e.skipped p 0))
   pub cells : catalogue_cells (last_room e) p lent ≡ get_or e.left p []
 
 -- as demand 3 has it: the result of the first commands of the run

@@ -1,14 +1,13 @@
 -- Six runs of two servers: a command that survives its server, two rivals, a slot beyond an empty one, half of the drives,
 -- lines that are asked for and filled, and a settled command that is learned. Two of one server: a strike, and a struck
 -- number that is used again in vain.
-use Rattle.std.specs.Prelude.{ℕ, List, [], ◌∷◌, ◌++◌, set, replicate}
-use Rattle.state.specs.declared.Answer.TheVariants.{Done, Outbid, Chosen, Committed, Refused}
+use Rattle.std.specs.Prelude.{ℕ, List, [], ◌∷◌, ◌++◌, set, replicate, Ok, Err}
+use Rattle.checks.specs.declared.Refusal.TheVariants.{DriveIsOff, NoMajority, SlotNotFree, NoSlotFree}
+use Rattle.state.specs.declared.Answer.TheVariants.{Done, Outbid, Chosen, Committed}
 use Rattle.state.specs.declared.Step.TheVariants.{Offer, Recall, Rejoin, Write, Read, Finish, Fail, DriveOff, DriveOn}
 use Rattle.catalogue.specs.Entry.{struck}
 use Rattle.catalogue.specs.Fold.{pieces}
 use Rattle.state.specs.Sizes.{sizes}
-use Rattle.free_slots.specs.declared.asking.Asking.TheVariants.{Free}
-use Rattle.free_slots.specs.declared.asking.Asking.TheVariants as asking
 use Rattle.history.specs.Calls.{Event, Took, Asked, Put}
 use Rattle.witness.specs.Example.{Example}
 
@@ -32,14 +31,14 @@ only piece cell = set (replicate pieces 0) piece cell
 -- on drive 0 alone, in a room of one drive or two, server p goes from phase 0 to 3 in slot s, undisturbed by q, and commits v
 abbrev pub settles : ℕ → ℕ → ℕ → ℕ → ℕ → List Event
 settles p q s ballot v =
-    Took (Recall p s 0) Done
-    ∷ Took (Rejoin p s ballot) Done
-    ∷ Took (Write p s 0) Done
-    ∷ Took (Read p s 0 q) Done
-    ∷ Took (Finish p s) (Chosen v)
-    ∷ Took (Write p s 0) Done
-    ∷ Took (Read p s 0 q) Done
-    ∷ Took (Finish p s) (Committed v)
+    Took (Recall p s 0) (Ok Done)
+    ∷ Took (Rejoin p s ballot) (Ok Done)
+    ∷ Took (Write p s 0) (Ok Done)
+    ∷ Took (Read p s 0 q) (Ok Done)
+    ∷ Took (Finish p s) (Ok (Chosen v))
+    ∷ Took (Write p s 0) (Ok Done)
+    ∷ Took (Read p s 0 q) (Ok Done)
+    ∷ Took (Finish p s) (Ok (Committed v))
     ∷ []
 
 -- Server 0 commits its offer and fails. Server 1, with another offer, commits the same command, and then its own in
@@ -49,9 +48,9 @@ survivor =
     record {
       sizes = sizes 2 1 2;
       run =
-          (Took (Offer 0 0 enter5) Done ∷ settles 0 1 0 1 enter5)
-          ++ (Took (Fail 0) Done ∷ Took (Offer 1 0 enter7) Done ∷ settles 1 0 0 2 enter5)
-          ++ (Took (Offer 1 1 move5) Done ∷ settles 1 0 1 2 move5)
+          (Took (Offer 0 0 enter5) (Ok Done) ∷ settles 0 1 0 1 enter5)
+          ++ (Took (Fail 0) (Ok Done) ∷ Took (Offer 1 0 enter7) (Ok Done) ∷ settles 1 0 0 2 enter5)
+          ++ (Took (Offer 1 1 move5) (Ok Done) ∷ settles 1 0 1 2 move5)
           ++ settles 0 1 0 3 enter5;
       chosen = enter5 ∷ enter5 ∷ move5 ∷ enter5 ∷ [];
       committed = enter5 ∷ enter5 ∷ move5 ∷ enter5 ∷ [];
@@ -63,11 +62,11 @@ survivor =
 
 -- in a room of two drives and one slot server p joins with an offer and a ballot
 abbrev pub joins : ℕ → ℕ → ℕ → List Event
-joins p v ballot = Took (Offer p 0 v) Done ∷ Took (Recall p 0 0) Done ∷ Took (Recall p 0 1) Done ∷ Took (Rejoin p 0 ballot) Done ∷ []
+joins p v ballot = Took (Offer p 0 v) (Ok Done) ∷ Took (Recall p 0 0) (Ok Done) ∷ Took (Recall p 0 1) (Ok Done) ∷ Took (Rejoin p 0 ballot) (Ok Done) ∷ []
 
 -- it writes both drives and reads q's block on both
 abbrev pub round : ℕ → ℕ → List Event
-round p q = Took (Write p 0 0) Done ∷ Took (Write p 0 1) Done ∷ Took (Read p 0 0 q) Done ∷ Took (Read p 0 1 q) Done ∷ []
+round p q = Took (Write p 0 0) (Ok Done) ∷ Took (Write p 0 1) (Ok Done) ∷ Took (Read p 0 0 q) (Ok Done) ∷ Took (Read p 0 1 q) (Ok Done) ∷ []
 
 -- Server 0 chooses its offer and has not written it when server 1, with a larger ballot, chooses another command and
 -- commits it. Server 0 then writes its own, is outbid, finds the other and commits that.
@@ -76,12 +75,12 @@ rivals =
     record {
       sizes = sizes 2 2 1;
       run =
-          (joins 0 enter5 1 ++ round 0 1 ++ (Took (Finish 0 0) (Chosen enter5) ∷ []))
-          ++ (joins 1 enter7 2 ++ round 1 0 ++ (Took (Finish 1 0) (Chosen enter7) ∷ []))
-          ++ (round 1 0 ++ (Took (Finish 1 0) (Committed enter7) ∷ []))
-          ++ (Took (Write 0 0 0) Done ∷ Took (Write 0 0 1) Done ∷ Took (Read 0 0 0 1) (Outbid 2) ∷ [])
-          ++ (round 0 1 ++ (Took (Finish 0 0) (Chosen enter7) ∷ []))
-          ++ (round 0 1 ++ (Took (Finish 0 0) (Committed enter7) ∷ []));
+          (joins 0 enter5 1 ++ round 0 1 ++ (Took (Finish 0 0) (Ok (Chosen enter5)) ∷ []))
+          ++ (joins 1 enter7 2 ++ round 1 0 ++ (Took (Finish 1 0) (Ok (Chosen enter7)) ∷ []))
+          ++ (round 1 0 ++ (Took (Finish 1 0) (Ok (Committed enter7)) ∷ []))
+          ++ (Took (Write 0 0 0) (Ok Done) ∷ Took (Write 0 0 1) (Ok Done) ∷ Took (Read 0 0 0 1) (Ok (Outbid 2)) ∷ [])
+          ++ (round 0 1 ++ (Took (Finish 0 0) (Ok (Chosen enter7)) ∷ []))
+          ++ (round 0 1 ++ (Took (Finish 0 0) (Ok (Committed enter7)) ∷ []));
       chosen = enter5 ∷ enter7 ∷ enter7 ∷ [];
       committed = enter7 ∷ enter7 ∷ [];
       commands = enter7 ∷ [];
@@ -95,7 +94,7 @@ unfoldable pub gap : Example
 gap =
     record {
       sizes = sizes 2 1 2;
-      run = Took (Offer 0 1 enter5) Done ∷ settles 0 1 1 1 enter5;
+      run = Took (Offer 0 1 enter5) (Ok Done) ∷ settles 0 1 1 1 enter5;
       chosen = enter5 ∷ [];
       committed = enter5 ∷ [];
       commands = [];
@@ -107,7 +106,7 @@ gap =
 -- with drive 0 off, server p recalls drive 1 and cannot rejoin
 abbrev pub shut_out : ℕ → ℕ → List Event
 shut_out p ballot =
-    Took (Fail p) Done ∷ Took (Recall p 0 1) Done ∷ Took (Rejoin p 0 ballot) (Refused 10) ∷ Took (Recall p 0 0) (Refused 8) ∷ []
+    Took (Fail p) (Ok Done) ∷ Took (Recall p 0 1) (Ok Done) ∷ Took (Rejoin p 0 ballot) (Err NoMajority) ∷ Took (Recall p 0 0) (Err DriveIsOff) ∷ []
 
 -- Drive 1 of two is off from the start, and server 0 settles its offer on drive 0 alone. Server 1 begins with another, drive
 -- 1 comes on and drive 0 goes off: on drive 1 alone it cannot finish, nor can anyone begin. With drive 0 on again both commit
@@ -117,12 +116,12 @@ halves =
     record {
       sizes = sizes 2 2 1;
       run =
-          (Took (DriveOff 1) Done ∷ Took (Offer 0 0 enter5) Done ∷ settles 0 1 0 1 enter5)
-          ++ (Took (Offer 1 0 enter7) Done ∷ Took (Recall 1 0 0) Done ∷ Took (Rejoin 1 0 2) Done ∷ [])
-          ++ (Took (DriveOn 1) Done ∷ Took (DriveOff 0) Done ∷ [])
-          ++ (Took (Write 1 0 1) Done ∷ Took (Read 1 0 1 0) Done ∷ Took (Finish 1 0) (Refused 10) ∷ [])
+          (Took (DriveOff 1) (Ok Done) ∷ Took (Offer 0 0 enter5) (Ok Done) ∷ settles 0 1 0 1 enter5)
+          ++ (Took (Offer 1 0 enter7) (Ok Done) ∷ Took (Recall 1 0 0) (Ok Done) ∷ Took (Rejoin 1 0 2) (Ok Done) ∷ [])
+          ++ (Took (DriveOn 1) (Ok Done) ∷ Took (DriveOff 0) (Ok Done) ∷ [])
+          ++ (Took (Write 1 0 1) (Ok Done) ∷ Took (Read 1 0 1 0) (Ok Done) ∷ Took (Finish 1 0) (Err NoMajority) ∷ [])
           ++ (shut_out 1 4 ++ shut_out 0 3)
-          ++ (Took (DriveOn 0) Done ∷ Took (Offer 1 0 enter7) Done ∷ settles 1 0 0 4 enter5)
+          ++ (Took (DriveOn 0) (Ok Done) ∷ Took (Offer 1 0 enter7) (Ok Done) ∷ settles 1 0 0 4 enter5)
           ++ settles 0 1 0 5 enter5;
       chosen = enter5 ∷ enter5 ∷ enter5 ∷ [];
       committed = enter5 ∷ enter5 ∷ enter5 ∷ [];
@@ -140,13 +139,13 @@ asks =
     record {
       sizes = sizes 2 1 2;
       run =
-          (Asked 0 (Free 0) ∷ Put 0 0 enter5 Done ∷ Put 0 0 enter7 (Refused 16) ∷ Asked 0 (Free 1) ∷ [])
-          ++ (Asked 1 (Free 0) ∷ Put 1 0 enter7 Done ∷ [])
+          (Asked 0 (Ok 0) ∷ Put 0 0 enter5 (Ok Done) ∷ Put 0 0 enter7 (Err SlotNotFree) ∷ Asked 0 (Ok 1) ∷ [])
+          ++ (Asked 1 (Ok 0) ∷ Put 1 0 enter7 (Ok Done) ∷ [])
           ++ (settles 0 1 0 1 enter5 ++ settles 1 0 0 2 enter5)
-          ++ (Asked 1 (Free 1) ∷ Put 1 1 move5 Done ∷ settles 1 0 1 2 move5)
+          ++ (Asked 1 (Ok 1) ∷ Put 1 1 move5 (Ok Done) ∷ settles 1 0 1 2 move5)
           ++ settles 0 1 1 3 move5
-          ++ (Asked 0 (asking.Refused 17) ∷ Put 0 1 enter7 (Refused 16) ∷ [])
-          ++ (Took (Fail 1) Done ∷ Asked 1 (Free 0) ∷ []);
+          ++ (Asked 0 (Err NoSlotFree) ∷ Put 0 1 enter7 (Err SlotNotFree) ∷ [])
+          ++ (Took (Fail 1) (Ok Done) ∷ Asked 1 (Ok 0) ∷ []);
       chosen = enter5 ∷ enter5 ∷ move5 ∷ move5 ∷ [];
       committed = enter5 ∷ enter5 ∷ move5 ∷ move5 ∷ [];
       commands = enter5 ∷ move5 ∷ [];
@@ -158,7 +157,7 @@ asks =
 -- in slot 0 server p recalls drive 0, joins, writes drive d, and learns v from q's block there
 abbrev pub learns : ℕ → ℕ → ℕ → ℕ → ℕ → List Event
 learns p q d ballot v =
-    Took (Recall p 0 0) Done ∷ Took (Rejoin p 0 ballot) Done ∷ Took (Write p 0 d) Done ∷ Took (Read p 0 d q) (Committed v) ∷ []
+    Took (Recall p 0 0) (Ok Done) ∷ Took (Rejoin p 0 ballot) (Ok Done) ∷ Took (Write p 0 d) (Ok Done) ∷ Took (Read p 0 d q) (Ok (Committed v)) ∷ []
 
 -- Server 0 settles its offer on drive 0 and writes both drives once more. Server 1, with another offer, joins late and learns
 -- from drive 1, without a Finish. It writes drive 0; server 0 fails, joins again and learns from that.
@@ -167,10 +166,10 @@ learners =
     record {
       sizes = sizes 2 2 1;
       run =
-          (Took (Offer 0 0 enter5) Done ∷ settles 0 1 0 1 enter5)
-          ++ (Took (Write 0 0 0) Done ∷ Took (Write 0 0 1) Done ∷ [])
-          ++ (Took (Offer 1 0 enter7) Done ∷ learns 1 0 1 2 enter5)
-          ++ (Took (Write 1 0 0) Done ∷ Took (Fail 0) Done ∷ learns 0 1 0 3 enter5);
+          (Took (Offer 0 0 enter5) (Ok Done) ∷ settles 0 1 0 1 enter5)
+          ++ (Took (Write 0 0 0) (Ok Done) ∷ Took (Write 0 0 1) (Ok Done) ∷ [])
+          ++ (Took (Offer 1 0 enter7) (Ok Done) ∷ learns 1 0 1 2 enter5)
+          ++ (Took (Write 1 0 0) (Ok Done) ∷ Took (Fail 0) (Ok Done) ∷ learns 0 1 0 3 enter5);
       chosen = enter5 ∷ [];
       committed = enter5 ∷ enter5 ∷ enter5 ∷ [];
       commands = enter5 ∷ [];
@@ -182,13 +181,13 @@ learners =
 -- in a room of one server and one drive the server offers v in slot s and commits it
 abbrev pub alone : ℕ → ℕ → List Event
 alone s v =
-    Took (Offer 0 s v) Done
-    ∷ Took (Recall 0 s 0) Done
-    ∷ Took (Rejoin 0 s 1) Done
-    ∷ Took (Write 0 s 0) Done
-    ∷ Took (Finish 0 s) (Chosen v)
-    ∷ Took (Write 0 s 0) Done
-    ∷ Took (Finish 0 s) (Committed v)
+    Took (Offer 0 s v) (Ok Done)
+    ∷ Took (Recall 0 s 0) (Ok Done)
+    ∷ Took (Rejoin 0 s 1) (Ok Done)
+    ∷ Took (Write 0 s 0) (Ok Done)
+    ∷ Took (Finish 0 s) (Ok (Chosen v))
+    ∷ Took (Write 0 s 0) (Ok Done)
+    ∷ Took (Finish 0 s) (Ok (Committed v))
     ∷ []
 
 -- A piece is entered and struck.

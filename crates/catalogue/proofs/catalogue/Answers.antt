@@ -5,8 +5,9 @@ use Rattle.layout.specs.Cells.{sizes_of}
 use Rattle.range.specs.Range.{in_range}
 use Rattle.catalogue.specs.Fold.{pieces}
 use Rattle.catalogue.specs.Call.{Listable, counted, entries_of, catalogue_of, catalogue_cells}
-use Rattle.catalogue.specs.declared.Listing.{Listing}
-use Rattle.catalogue.specs.declared.Listing.TheVariants.{Refused}
+use Rattle.std.specs.Prelude.{Ok, Err}
+use Rattle.checks.specs.declared.Refusal.TheVariants.{BeyondRoom}
+use Rattle.catalogue.specs.declared.Counts.{Counts}
 use Rattle.catalogue.proofs.CallLaws.{room_head, room_servers, listable, wrong_length, out_of_range, no_server, accepts}
 use Rattle.catalogue.proofs.catalogue.Goals as goal
 
@@ -22,16 +23,16 @@ module _ (room : List ℕ) (server : ℕ) (out : List ℕ) (range : in_range roo
 
   refused
       : length out ≡ pieces → z.servers ≤ server
-      → (Refused 4 ≡ catalogue_of room server out) × (out ≡ catalogue_cells room server out)
+      → (Err BeyondRoom ≡ catalogue_of room server out) × (out ≡ catalogue_cells room server out)
   refused exact h = no_server room server out exact range (subst (λ (y : Sizes). y.servers ≤ server) e h)
 
   listed
-      : length out ≡ pieces → (r : Listing) (new : List ℕ) → server < z.servers → r ≡ counted z room server
+      : length out ≡ pieces → (r : Counts) (new : List ℕ) → server < z.servers → r ≡ counted z room server
       → new ≡ (entries_of z room server).cells
-      → (r ≡ catalogue_of room server out) × (new ≡ catalogue_cells room server out)
+      → (Ok r ≡ catalogue_of room server out) × (new ≡ catalogue_cells room server out)
   listed exact r new h f g =
       let a = accepts room server out exact range (subst (λ (y : Sizes). server < y.servers) e h) in (
-        f ∙ ap (λ (y : Sizes). counted y room server) e ∙ a.0,
+        ap Ok (f ∙ ap (λ (y : Sizes). counted y room server) e) ∙ a.0,
         g ∙ ap (λ (y : Sizes). (entries_of y room server).cells) e ∙ a.1,
       )
 

@@ -1,34 +1,32 @@
 -- `read_record` meets its contract: the step of the fields that were found is the step that was read.
-use mathlib.Core.Path.{◌≡◌, refl, ◌∙◌, ap}
+use mathlib.Core.Path.{◌≡◌, refl, ◌∙◌, sym, ap}
 use mathlib.Core.List.{List}
 use Prim.Native.Nat.{ℕ}
+use Rattle.std.proofs.Common.{rules}
+use Rattle.std.specs.Prelude.{Ok, Err}
+use Rattle.checks.specs.Checks.{mapped}
 use Rattle.state.specs.declared.Step.{Step}
 use Rattle.record.specs.Fields.{step_of}
-use Rattle.record.specs.Read.{reading_of, found_in, found_of}
-use Rattle.record.specs.declared.Found.TheVariants as found
-use Rattle.record.specs.declared.Found.{Found}
-use Rattle.record.specs.declared.Reading.TheVariants.{Decoded, Refused}
-use Rattle.record.specs.declared.Reading.{Reading}
+use Rattle.record.specs.Read.{Reading, Found, reading_of, found_in, found_of}
 use Rattle.record.proofs.Steps.{step_fields}
 use Rattle.record.proofs.read_record.Goals as goal
 
--- what is answered where this was found
-abbrev answer : Found → Reading
-answer (found.Record f used) = Decoded (step_of f) used
-answer (found.Refused number) = Refused number
-
-same : (r : Reading) → answer (found_in r) ≡ r
-same (Decoded step used) = ap (λ (s : Step). Decoded s used) (step_fields step)
-same (Refused number) = refl
+same : (r : Reading) → mapped (λ f. (step_of f.0, f.1)) (found_in r) ≡ r
+same (Ok (step, used)) = ap (λ (s : Step). Ok (s, used)) (step_fields step)
+same (Err n) = refl
 
 -- what was found is what `read_fields` says
-answers : (bytes : List ℕ) (f : Found) → f ≡ found_of bytes → answer f ≡ reading_of bytes
+answers : (bytes : List ℕ) (f : Found) → f ≡ found_of bytes → mapped (λ x. (step_of x.0, x.1)) f ≡ reading_of bytes
 unfolding found_of
-answers bytes f e = ap answer e ∙ same (reading_of bytes)
+answers bytes f e = ap (mapped (λ x. (step_of x.0, x.1))) e ∙ same (reading_of bytes)
 
-pub returns-in-Record : goal.returns-in-Record
-returns-in-Record c =
-    ap (λ (s : Step). Decoded s c.in-Record.used) c.step_of.ensures ∙ answers _ _ c.in-Record.ensures
+pub returns-in_err-found : goal.returns-in_err-found
+returns-in_err-found c =
+    let told = ap (mapped (λ x. (step_of x.0, x.1))) (sym c.in_err-found.was) ∙ answers _ _ c.read_fields.ensures in
+    search (rules, told)
 
-pub returns-in-Refused : goal.returns-in-Refused
-returns-in-Refused c = answers _ _ c.in-Refused.ensures
+pub returns : goal.returns
+returns c =
+    ap (λ (s : Step). Ok (s, c.in_ok-found.used)) c.step_of.ensures
+    ∙ ap (mapped (λ x. (step_of x.0, x.1))) (sym c.in_ok-found.was)
+    ∙ answers _ _ c.read_fields.ensures

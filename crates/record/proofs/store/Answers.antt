@@ -6,11 +6,12 @@ use mathlib.Core.Path.{◌≡◌, ◌∙◌, sym, ap, refl}
 use borrow.Author.Tests.{lt-leb, le-leb}
 use lib.ListN.{length}
 use lib.Seq.{sets}
+use Rattle.std.specs.Prelude.{Ok, Err}
+use Rattle.checks.specs.declared.Refusal.TheVariants.{WrongLength}
 use Rattle.checks.proofs.CheckLaws.{passes, fails}
 use Rattle.record.specs.Fields.{mask_of, values_of}
 use Rattle.record.specs.Map.{map_of, record_length}
 use Rattle.record.specs.Write.{write_checks, storing, stored, bytes_of, record_of_fields}
-use Rattle.record.specs.declared.Writing.TheVariants.{Encoded, Refused}
 use Rattle.record.specs.declared.fields.Fields.{Fields}
 use Rattle.record.proofs.Bytes.{stored_first, says}
 use Rattle.record.proofs.MapLaws.{map_small, bytes-length}
@@ -28,18 +29,18 @@ length_is f m long e is = is ∙ sym (bytes-length m f.kind (values_of f) refl) 
 
 -- a buffer that is too short is left as it was
 refuses : (bytes old : List ℕ) (long : ℕ) → long ≡ length bytes → length old < long
-    → (Refused 2 ≡ storing bytes old) × (old ≡ stored bytes old)
+    → (Err WrongLength ≡ storing bytes old) × (old ≡ stored bytes old)
 unfolding storing stored write_checks
-refuses bytes old long is h = says bytes old (fails Refused _ 2 _ (lt-leb _ _ (rw is at h)))
+refuses bytes old long is h = says bytes old (fails _ WrongLength _ (lt-leb _ _ (rw is at h)))
 
 -- in one that is long enough the bytes stand first
 stores : (bytes old : List ℕ) (long : ℕ) → long ≡ length bytes → long ≤ length old
-    → (Encoded long ≡ storing bytes old) × (sets old 0 bytes ≡ stored bytes old)
+    → (Ok long ≡ storing bytes old) × (sets old 0 bytes ≡ stored bytes old)
 unfolding storing stored write_checks
 stores bytes old long is h =
     let fits : length bytes ≤ length old = rw is at h in
-    let told = says bytes old (passes Refused _ 2 _ (le-leb _ _ fits)) in
-    (ap Encoded is ∙ told.0, stored_first bytes old fits ∙ told.1)
+    let told = says bytes old (passes _ WrongLength _ (le-leb _ _ fits)) in
+    (ap Ok is ∙ told.0, stored_first bytes old fits ∙ told.1)
 
 pub put_fields-requires : goal.put_fields-requires
 put_fields-requires c =

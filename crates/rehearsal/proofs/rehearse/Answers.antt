@@ -9,12 +9,12 @@ use Rattle.rehearsal.proofs.rehearse.Goals as goal
 pub returns-then-input-gt-INPUT_MAX : goal.returns-then-input-gt-INPUT_MAX
 returns-then-input-gt-INPUT_MAX c =
     subst (Holds c.open_line.new.self.buffer.now c.open_line.new.self.length) (sym (too_long c.args.input.now (omega arith) (search rules)))
-    (only_line 2 (omega arith) c.new-text.ensures.empty (search rules) c.open_line.ensures)
+    (only_line 2 c.number.ensures (omega arith) c.new-text.ensures.empty (search rules) c.open_line.ensures)
 
 pub returns-in_default : goal.returns-in_default
 returns-in_default c =
     subst (Holds c.open_line-in_default.new.self.buffer.now c.open_line-in_default.new.self.length) (sym (too_short c.args.input.now (search rules)))
-    (only_line 14 (omega arith) c.new-text.ensures.empty (search rules) c.open_line-in_default.ensures)
+    (only_line 14 c.number-in_default.ensures (omega arith) c.new-text.ensures.empty (search rules) c.open_line-in_default.ensures)
 
 pub returns : goal.returns
 returns c =

@@ -8,16 +8,16 @@ use Rattle.rehearsal.proofs.run.Goals as goal
 
 pub servers-requires : goal.servers-requires
 servers-requires c =
-    let few = (fit_of c.args.z (opened_fits c.args.z _ (sym c.in-Opened.ensures.0))).servers in
+    let few = (fit_of c.args.z (opened_fits c.args.z _ (sym c.in-Ok.ensures.0))).servers in
     let lines = c.steps.ensures.lines in
     omega (arith, few, lines.few, lines.size, c.requires)
 
-pub returns-in-Opened : goal.returns-in-Opened
-returns-in-Opened c =
-    opened_text c.args.z _ (script c.args.records.now) (sym c.in-Opened.ensures.0) c.«open».ensures.1 c.steps.ensures.room
+pub returns-in-Ok : goal.returns-in-Ok
+returns-in-Ok c =
+    opened_text c.args.z _ (script c.args.records.now) (sym c.in-Ok.ensures.0) c.«open».ensures.1 c.steps.ensures.room
     (adds_then c.steps.ensures.lines c.servers.ensures)
 
-pub returns-in-Refused : goal.returns-in-Refused
-returns-in-Refused c =
+pub returns-in-Err : goal.returns-in-Err
+returns-in-Err c =
     refused_text c.args.z _ (script c.args.records.now) (search rules)
-    (sym c.in-Refused.ensures.0) (search rules) c.open_line.ensures
+    (sym c.in-Err.ensures.0) (search rules) c.number.ensures c.open_line.ensures

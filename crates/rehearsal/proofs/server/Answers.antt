@@ -1,6 +1,9 @@
 -- `server` meets its contract: the line is made of the two counts that the catalogue's answer has.
-use Rattle.std.proofs.Common.{◌≡◌, ◌∙◌, ap, subst, List, ℕ, rules, arith}
-use Rattle.catalogue.specs.Listing.{taken_of}
+use Rattle.std.proofs.Common.{◌≡◌, ◌∙◌, ap, subst, List, ℕ, replicate, rules, arith}
+use Rattle.catalogue.specs.declared.Counts.{Counts}
+use Rattle.catalogue.specs.Fold.{pieces}
+use Rattle.catalogue.specs.Listing.{counts_of}
+use Rattle.catalogue.specs.Call.{catalogue_of}
 use Rattle.transcript.specs.Lines.{line_max, server_line}
 use Rattle.transcript.proofs.LineLaws.{server_max}
 use Rattle.rehearsal.specs.Rehearsal.{counts_line, line_of}
@@ -12,11 +15,11 @@ pub returns : goal.returns
 unfolding counts_line line_of
 returns c =
     let p = c.args.p in
-    let taken = c.taken.result in
-    let skipped = c.skipped.result in
-    let line : server_line p taken skipped ≡ line_of c.args.room.now p =
-    ap (λ (n : ℕ). server_line p n skipped) c.taken.ensures
-    ∙ ap (λ (n : ℕ). server_line p (taken_of c.catalogue-listing.result) n) c.skipped.ensures
-    ∙ ap (counts_line p) c.catalogue-listing.ensures.0 in
+    let counts = c.unwrap_or-counts.result in
+    let told : counts ≡ counts_of (catalogue_of c.args.room.now p (replicate pieces 0)) =
+    c.unwrap_or-counts.ensures ∙ ap counts_of c.catalogue.ensures.0 in
+    let line : server_line p counts.taken counts.skipped ≡ line_of c.args.room.now p =
+    ap (λ (x : Counts). server_line p x.taken x.skipped) told in
     subst (λ (l : List ℕ). Adds c.args.text.now l c.server_line.new.self line_max) line
-    (adds_line c.server_line.ensures (search rules) (server_max p taken skipped (search rules) (search rules) (search rules)) (omega arith))
+    (adds_line c.server_line.ensures (search rules)
+    (server_max p counts.taken counts.skipped (search rules) (search rules) (search rules)) (omega arith))

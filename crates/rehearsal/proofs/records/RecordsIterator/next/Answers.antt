@@ -8,20 +8,20 @@ pub returns-then-is_empty-clause-steps : goal.returns-then-is_empty-clause-steps
 returns-then-is_empty-clause-steps c = script_empty c.args.self.now.0.now (search rules)
 
 pub slice_bounds-self-count : goal.slice_bounds-self-count
-slice_bounds-self-count c = (used_bounds c.args.self.now.0.now (sym c.in-Decoded.ensures)).within
+slice_bounds-self-count c = (used_bounds c.args.self.now.0.now (sym c.in-Ok.ensures)).within
 
 pub slice_bounds-self-start : goal.slice_bounds-self-start
 slice_bounds-self-start c =
-    let u = used_bounds c.args.self.now.0.now (sym c.in-Decoded.ensures) in
+    let u = used_bounds c.args.self.now.0.now (sym c.in-Ok.ensures) in
     search rules
 
-pub returns-in-Decoded-clause-steps : goal.returns-in-Decoded-clause-steps
-returns-in-Decoded-clause-steps c = script_behind c.args.self.now.0.now (search rules) (sym c.in-Decoded.ensures)
+pub returns-in-Ok-clause-steps : goal.returns-in-Ok-clause-steps
+returns-in-Ok-clause-steps c = script_behind c.args.self.now.0.now (search rules) (sym c.in-Ok.ensures)
 
-pub returns-in-Decoded-clause-goes : goal.returns-in-Decoded-clause-goes
-returns-in-Decoded-clause-goes c =
-    let u = used_bounds c.args.self.now.0.now (sym c.in-Decoded.ensures) in
+pub returns-in-Ok-clause-goes : goal.returns-in-Ok-clause-goes
+returns-in-Ok-clause-goes c =
+    let u = used_bounds c.args.self.now.0.now (sym c.in-Ok.ensures) in
     search rules
 
-pub returns-in-Refused-clause-steps : goal.returns-in-Refused-clause-steps
-returns-in-Refused-clause-steps c = (script_stop c.args.self.now.0.now (search rules) (sym c.in-Refused.ensures), script_none)
+pub returns-in-Err-clause-steps : goal.returns-in-Err-clause-steps
+returns-in-Err-clause-steps c = (script_stop c.args.self.now.0.now (search rules) (sym c.in-Err.ensures), script_none)
