@@ -3,7 +3,7 @@ use Prim.Native.Nat.{ℕ, ◌<◌, ◌≤◌}
 use mathlib.Core.Bool.{false}
 use mathlib.Core.List.{List}
 use mathlib.Core.Logic.{◌⊎◌, inl, inr}
-use mathlib.Core.Path.{◌≡◌, refl, ◌∙◌, sym, ap}
+use mathlib.Core.Path.{◌≡◌, refl, ◌∙◌, sym, ap, ap₂}
 use native.Mathlib.Omega.{arith}
 use borrow.Author.Tests.{ltb-true, leb-true, not-true}
 use lib.ListN.{length, get_or}
@@ -16,10 +16,12 @@ use Rattle.checks.proofs.CheckLaws.{must_cases}
 use Rattle.checks.proofs.LowestLaws.{first_applies}
 use Rattle.record.specs.Fields.{mask_of, fields_of, step_of, with_values}
 use Rattle.record.specs.Map.{widths, record_length, unknown, malformed, asks_more, zero_among}
-use Rattle.record.specs.Read.{Reading, read_checks, reading_of, values_at}
+use Rattle.record.specs.Read.{Reading, read_checks, reading_of, values_at, found_in, found_of}
+use Rattle.record.specs.declared.fields.Fields.{Fields}
+use Rattle.checks.specs.Checks.{mapped}
 use Rattle.lemmas.proofs.Tests.{neither_left, neither_right}
 use Rattle.record.proofs.Marks.{asked-length, values_mark, values_keep}
-use Rattle.record.proofs.Steps.{kind_length, fields_step}
+use Rattle.record.proofs.Steps.{kind_length, step_fields, fields_step}
 
 -- what the checks say where a step was read
 pub record Accepted (bytes : List ℕ) (step : Step) (used : ℕ) : Type 0 where
@@ -69,6 +71,26 @@ fields_read_lem bytes read =
     let vs = values_at widths m bytes 2 in
     let keeps = values_keep widths vs m (mask_of kind) refl (values_mark widths m bytes 2 h.none_zero) h.asks in
     ap fields_of (sym h.step_is) ∙ fields_step (with_values kind vs) h.known keeps
+
+pub fields_found : (bytes : List ℕ) {step : Step} {f : Fields} {used length : ℕ} → reading_of bytes ≡ Ok (step, length)
+    → f ≡ with_values (get_or bytes 1 0) (values_at widths (get_or bytes 0 0) bytes 2) → used ≡ length
+    → Ok (f, used) ≡ found_of bytes
+unfolding found_of
+fields_found bytes read is same =
+    ap₂ (λ (x : Fields) (y : ℕ). Ok (x, y)) (is ∙ sym (fields_read_lem bytes read)) same ∙ ap found_in (sym read)
+
+-- what is found is refused as reading is, and its step is the one that is read
+found_step : (r : Reading) → mapped (λ f. (step_of f.0, f.1)) (found_in r) ≡ r
+found_step (Ok (step, used)) = ap (λ (s : Step). Ok (s, used)) (step_fields step)
+found_step (Err n) = refl
+
+pub found_refused : (bytes : List ℕ) (n : Refusal) → Err n ≡ found_of bytes → Err n ≡ reading_of bytes
+unfolding found_of
+found_refused bytes n e = ap (mapped (λ f. (step_of f.0, f.1))) e ∙ found_step (reading_of bytes)
+
+pub found_read : (bytes : List ℕ) (f : Fields) (used : ℕ) → Ok (f, used) ≡ found_of bytes → Ok (step_of f, used) ≡ reading_of bytes
+unfolding found_of
+found_read bytes f used e = ap (mapped (λ x. (step_of x.0, x.1))) e ∙ found_step (reading_of bytes)
 
 -- The length used: at least the map and the kind, at most eight bytes, and no more than there are.
 pub record Used (bytes : List ℕ) (used : ℕ) : Type 0 where

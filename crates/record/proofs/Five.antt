@@ -1,88 +1,58 @@
--- What the definitions of a record say at the five fields, with each bit's own place value as the code has it.
-use Prim.Native.Nat.{ℕ, ◌+◌, ◌*◌, ◌/◌, ◌%◌, ◌<◌, ◌≤◌}
-use mathlib.Core.List.{List, [], ◌∷◌, append-nil}
-use mathlib.Core.Path.{◌≡◌}
-use native.Mathlib.Nat.{div-div-eq-div-mul, mul-one, mod-lt}
+-- What the definitions of a record say at the five fields, as the code has them.
+use Prim.Native.Nat.{ℕ, ◌+◌, ◌*◌, ◌/◌, ◌%◌, ◌<◌}
+use mathlib.Core.List.{List, [], ◌∷◌}
+use mathlib.Core.Path.{◌≡◌, ◌∙◌, sym}
+use native.Mathlib.Nat.{div-div-eq-div-mul, mod-lt}
 use native.Mathlib.Omega.{arith}
 use lib.Dec.{lit<}
-use lib.ListN.{take, drop}
+use lib.ListN.{take}
 use lib.Seq.{sets}
+use Rattle.std.specs.Int.{w32, to_le_bytes}
 use Rattle.record.specs.Map.{widths, fields_length, record_length}
-use Rattle.record.specs.Read.{low_number, values_at}
 use Rattle.record.specs.Write.{low_first, field_bytes}
-use Rattle.record.proofs.Bytes.{put_more}
+use Rattle.record.proofs.Bytes.{put_more, take_bit, byte_first, word_first}
 
 pub record_length_lem : (m : ℕ)
     → record_length m ≡ 2 + m % 2 + m / 2 % 2 + m / 4 % 2 + m / 8 % 2 + m / 16 % 2 * 4
 unfolding record_length fields_length
 record_length_lem m = simp div-div-eq-div-mul (omega arith)
 
--- where slot, drive, other and number stand
-abbrev pub slot_at : ℕ → ℕ
-slot_at m = 2 + m % 2
-
-abbrev pub drive_at : ℕ → ℕ
-drive_at m = slot_at m + m / 2 % 2
-
-abbrev pub other_at : ℕ → ℕ
-other_at m = drive_at m + m / 4 % 2
-
-abbrev pub number_at : ℕ → ℕ
-number_at m = other_at m + m / 8 % 2
-
--- each bit is 0 or 1, and each field ends within the length
-pub record Places (m long : ℕ) : Type 0 where
-  pub head : 2 ≤ long
-  pub server : (m % 2 < 2) × (slot_at m ≤ long)
-  pub slot : (m / 2 % 2 < 2) × (drive_at m ≤ long)
-  pub drive : (m / 4 % 2 < 2) × (other_at m ≤ long)
-  pub other : (m / 8 % 2 < 2) × (number_at m ≤ long)
-  pub number : (m / 16 % 2 < 2) × (number_at m + m / 16 % 2 * 4 ≤ long)
-
--- the same for any five numbers in the place of the bits
-sums : (a b c d e long : ℕ) → 2 + a + b + c + d + e ≤ long
-    → (2 ≤ long)
-    × (2 + a ≤ long)
-    × (2 + a + b ≤ long)
-    × (2 + a + b + c ≤ long)
-    × (2 + a + b + c + d ≤ long)
-sums a b c d e long h = omega arith
-
-pub places : (m long : ℕ) → record_length m ≤ long → Places m long
-places m long h =
-    let whole : 2 + m % 2 + m / 2 % 2 + m / 4 % 2 + m / 8 % 2 + m / 16 % 2 * 4 ≤ long = rw record_length_lem at h in
-    let parts = sums (m % 2) (m / 2 % 2) (m / 4 % 2) (m / 8 % 2) (m / 16 % 2 * 4) long whole in
-    record {
-      head = parts.0;
-      server = (mod-lt m (lit< tt), parts.1);
-      slot = (mod-lt (m / 2) (lit< tt), parts.2);
-      drive = (mod-lt (m / 4) (lit< tt), parts.3);
-      other = (mod-lt (m / 8) (lit< tt), parts.4);
-      number = (mod-lt (m / 16) (lit< tt), whole);
-    }
-
-pub values_at_lem : (m : ℕ) (s : List ℕ)
-    → values_at widths m s 2
-    ≡ low_number (take (m % 2) (drop 2 s))
-    ∷ low_number (take (m / 2 % 2) (drop (slot_at m) s))
-    ∷ low_number (take (m / 4 % 2) (drop (drive_at m) s))
-    ∷ low_number (take (m / 8 % 2) (drop (other_at m) s))
-    ∷ low_number (take (m / 16 % 2 * 4) (drop (number_at m) s))
-    ∷ []
-unfolding values_at
-values_at_lem m s = simp (div-div-eq-div-mul, mul-one)
-
-pub fields_put : (l : List ℕ) (m p s d q n : ℕ)
-    → sets l 2 (field_bytes widths m (p ∷ s ∷ d ∷ q ∷ n ∷ []))
-    ≡ sets
-    (sets
-    (sets
-    (sets (sets l 2 (low_first (m % 2) p)) (slot_at m) (low_first (m / 2 % 2) s))
-    (drive_at m)
-    (low_first (m / 4 % 2) d))
-    (other_at m)
-    (low_first (m / 8 % 2) q))
-    (number_at m)
-    (low_first (m / 16 % 2 * 4) n)
+-- a field stored, and then the others where it ends
+put_field : (l : List ℕ) (at w v m : ℕ) (ws vs field : List ℕ) → field ≡ low_first w v
+    → sets (sets l at (take (m % 2 * w) field)) (at + m % 2 * w) (field_bytes ws (m / 2) vs)
+    ≡ sets l at (field_bytes (w ∷ ws) m (v ∷ vs))
 unfolding field_bytes
-fields_put l m p s d q n = simp (div-div-eq-div-mul, mul-one, append-nil, put_more)
+put_field l at w v m ws vs field e =
+    rw (e, take_bit w (m % 2) v (mod-lt m (lit< tt))) (sym (put_more l at (m % 2 * w) v (field_bytes ws (m / 2) vs)))
+
+-- a byte or a word, behind the fields before it
+abbrev pub byte_put : List ℕ → ℕ → ℕ → ℕ → List ℕ
+byte_put l at m v = sets l at (take (m % 2 * 1) (v ∷ []))
+
+abbrev pub word_put : List ℕ → ℕ → ℕ → ℕ → List ℕ
+word_put l at m v = sets l at (take (m % 2 * 4) (to_le_bytes w32 v))
+
+abbrev pub next : ℕ → ℕ → ℕ
+next at m = at + m % 2 * 1
+
+pub fields_put : (l : List ℕ) (m p s d q n : ℕ) → p < 256 → s < 256 → d < 256 → q < 256
+    → (let m1 = m / 2 in let m2 = m1 / 2 in let m3 = m2 / 2 in
+    let a1 = next 2 m in let a2 = next a1 m1 in let a3 = next a2 m2 in
+    word_put (byte_put (byte_put (byte_put (byte_put l 2 m p) a1 m1 s) a2 m2 d) a3 m3 q) (next a3 m3) (m3 / 2) n)
+    ≡ sets l 2 (field_bytes widths m (p ∷ s ∷ d ∷ q ∷ n ∷ []))
+unfolding field_bytes
+fields_put l m p s d q n hp hs hd hq =
+    let m1 = m / 2 in
+    let m2 = m1 / 2 in
+    let m3 = m2 / 2 in
+    let a1 = next 2 m in
+    let a2 = next a1 m1 in
+    let a3 = next a2 m2 in
+    let l1 = byte_put l 2 m p in
+    let l2 = byte_put l1 a1 m1 s in
+    let l3 = byte_put l2 a2 m2 d in
+    put_field (byte_put l3 a3 m3 q) (next a3 m3) 4 n (m3 / 2) [] [] (to_le_bytes w32 n) (word_first n)
+    ∙ put_field l3 a3 1 q m3 (4 ∷ []) (n ∷ []) (q ∷ []) (byte_first q hq)
+    ∙ put_field l2 a2 1 d m2 (1 ∷ 4 ∷ []) (q ∷ n ∷ []) (d ∷ []) (byte_first d hd)
+    ∙ put_field l1 a1 1 s m1 (1 ∷ 1 ∷ 4 ∷ []) (d ∷ q ∷ n ∷ []) (s ∷ []) (byte_first s hs)
+    ∙ put_field l 2 1 p m (1 ∷ 1 ∷ 1 ∷ 4 ∷ []) (s ∷ d ∷ q ∷ n ∷ []) (p ∷ []) (byte_first p hp)

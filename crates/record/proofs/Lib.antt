@@ -9,6 +9,8 @@ pub mod MapLaws
 pub mod Marks
 -- the ten kinds
 pub mod Steps
+-- what writing answers and leaves
+pub mod Writes
 -- what holds where a step was read, and the numbers of the answers
 pub mod Accepted
 -- the theorems

@@ -1,15 +1,18 @@
 -- Steps and their fields: the ten kinds are gone through here, and nowhere else.
 use Prim.Native.Nat.{ℕ, suc, ◌≤◌}
-use mathlib.Core.Bool.{false}
+use mathlib.Core.Bool.{true, false}
 use mathlib.Core.List.{List, ◌∷◌}
 use mathlib.Core.Path.{◌≡◌, refl, ◌∙◌, sym, ap, subst}
 use native.Mathlib.Omega.{arith}
-use borrow.Author.Tests.{ltb-false, eqb-true, eqb-false}
+use borrow.Author.Tests.{ltb-false, eqb-true, eqb-false, ne_eqb}
 use lib.Dec.{eqb, ltb, lit≤}
-use Rattle.lemmas.proofs.Tests.{by_test, neither_left, neither_right}
+use Rattle.lemmas.proofs.Tests.{by_test, clash, neither_left, neither_right}
 use Rattle.state.specs.declared.Step.TheVariants.{Offer, Recall, Rejoin, Bid, Write, Read, Finish, Fail, DriveOff, DriveOn}
 use Rattle.state.specs.declared.Step.{Step}
 use Rattle.record.specs.Fields.{mask_of, fields_of, step_of, values_of, with_values, StepFits}
+use Rattle.record.specs.Kinds.{number_of}
+use Rattle.record.specs.declared.kinds.Kind.{Kind}
+use Rattle.record.specs.declared.kinds.Kind.TheVariants as kind
 use Rattle.record.specs.Map.{widths, map_of, unknown, fields_length, record_length}
 use Rattle.record.specs.Write.{bytes_of, record_of_fields, record_of}
 use Rattle.record.specs.declared.fields.Fields.{Fields}
@@ -28,6 +31,14 @@ step_fields (Fail p) = refl
 step_fields (DriveOff d) = refl
 step_fields (DriveOn d) = refl
 
+-- a kind that is none of the ten counts as the last of them
+pub step_unknown : (f : Fields) → unknown f.kind ≡ true → step_of (with_values 10 (values_of f)) ≡ step_of f
+unfolding step_of
+step_unknown f h =
+    let none : (n : ℕ) → unknown n ≡ false → eqb f.kind n ≡ false =
+    λ n known. ne_eqb f.kind n (λ same. clash (unknown n) (ap unknown (sym same) ∙ h) known) in
+    simp (none 1 refl, none 2 refl, none 3 refl, none 4 refl, none 5 refl, none 6 refl, none 7 refl, none 8 refl, none 9 refl)
+
 pub kind_known : (step : Step) → unknown (fields_of step).kind ≡ false
 kind_known (Offer p s v) = refl
 kind_known (Recall p s d) = refl
@@ -39,6 +50,18 @@ kind_known (Finish p s) = refl
 kind_known (Fail p) = refl
 kind_known (DriveOff d) = refl
 kind_known (DriveOn d) = refl
+
+pub number_known : (kind : Kind) → unknown (number_of kind) ≡ false
+number_known kind.Offer = refl
+number_known kind.Recall = refl
+number_known kind.Rejoin = refl
+number_known kind.Bid = refl
+number_known kind.Write = refl
+number_known kind.Read = refl
+number_known kind.Finish = refl
+number_known kind.Fail = refl
+number_known kind.DriveOff = refl
+number_known kind.DriveOn = refl
 
 pub step_keeps : (step : Step) → Keeps (mask_of (fields_of step).kind) (values_of (fields_of step))
 unfolding mask_of

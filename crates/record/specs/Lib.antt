@@ -3,6 +3,10 @@
 pub mod Fields
 -- the map byte
 pub mod Map
+-- the kinds as an enum
+pub mod Kinds
+-- a walk over the fields
+pub mod Cursor
 -- what is written for a step, or for its fields
 pub mod Write
 -- what is read from bytes, as a step or as its fields
