@@ -2,7 +2,7 @@
 #![tactic(auto)]
 
 ghost use Rattle.std.specs.Prelude.{◌≡◌};
-ghost use Rattle.synod.specs.Arguments.{in_room, places_fit, command_fits};
+ghost use Rattle.synod.specs.Arguments.{in_room, drive_fits, places_fit, command_fits};
 
 use command::is_command;
 use state::{Sizes, Step};
@@ -13,28 +13,34 @@ pub fn places_fit(z: Sizes, step: Step) -> bool
     ensures { result ≡ places_fit z step }
 {
     match step {
-        Step::Offer(server, slot, _) => in_room(z, server, slot),
-        Step::Recall(server, slot, drive) => in_room(z, server, slot) & ((drive as u32) < z.drives),
-        Step::Rejoin(server, slot, _) => in_room(z, server, slot),
-        Step::Bid(server, slot, _) => in_room(z, server, slot),
-        Step::Write(server, slot, drive) => in_room(z, server, slot) & ((drive as u32) < z.drives),
+        Step::Offer(server, slot, _)
+        | Step::Rejoin(server, slot, _)
+        | Step::Bid(server, slot, _)
+        | Step::Finish(server, slot) => in_room(z, server, slot),
+        Step::Recall(server, slot, drive) | Step::Write(server, slot, drive) => {
+            in_room(z, server, slot) && drive_fits(z, drive)
+        }
         Step::Read(server, slot, drive, other) => {
             in_room(z, server, slot)
-                & ((drive as u32) < z.drives)
-                & ((other as u32) < z.servers)
-                & (other != server)
+                && drive_fits(z, drive)
+                && u32::from(other) < z.servers
+                && other != server
         }
-        Step::Finish(server, slot) => in_room(z, server, slot),
-        Step::Fail(server) => (server as u32) < z.servers,
-        Step::DriveOff(drive) => (drive as u32) < z.drives,
-        Step::DriveOn(drive) => (drive as u32) < z.drives,
+        Step::Fail(server) => u32::from(server) < z.servers,
+        Step::DriveOff(drive) | Step::DriveOn(drive) => drive_fits(z, drive),
     }
 }
 
 fn in_room(z: Sizes, server: u8, slot: u8) -> bool
     ensures { result ≡ in_room z server slot }
 {
-    ((server as u32) < z.servers) & ((slot as u32) < z.slots)
+    u32::from(server) < z.servers && u32::from(slot) < z.slots
+}
+
+fn drive_fits(z: Sizes, drive: u8) -> bool
+    ensures { result ≡ drive_fits z drive }
+{
+    u32::from(drive) < z.drives
 }
 
 // The command that the step offers, if it offers one, is a command by the limits given.
@@ -42,9 +48,8 @@ fn in_room(z: Sizes, server: u8, slot: u8) -> bool
 pub fn command_fits(limits: &[u32; 8], step: Step) -> bool
     ensures { result ≡ command_fits limits.now step }
 {
-    if let Step::Offer(_, _, command) = step {
-        is_command(limits, command)
-    } else {
-        true
+    match step {
+        Step::Offer(_, _, command) => is_command(limits, command),
+        _ => true,
     }
 }

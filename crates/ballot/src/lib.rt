@@ -11,14 +11,7 @@ use state::Block;
 pub fn is_own(n: u32, p: u32, b: u32) -> bool
     ensures { result ≡ owned n p b }
 {
-    if p < n {
-        if b < 1 {
-            return false;
-        }
-        Block::ballot_fits(b) & ((b - 1) % n == p)
-    } else {
-        false
-    }
+    p < n && 1 <= b && Block::ballot_fits(b) && (b - 1) % n == p
 }
 
 // The least ballot of server p above the one found, in a room of n servers, 1 to 4; none where its ballots are spent.
@@ -26,7 +19,7 @@ pub fn is_own(n: u32, p: u32, b: u32) -> bool
 pub fn next_own(n: u32, p: u32, found: u32) -> Option<u32>
     ensures { result ≡ next_own n p found }
 {
-    if (p < n) & (n <= 4) & Block::ballot_fits(found) {
+    if p < n && n <= 4 && Block::ballot_fits(found) {
         let least = least_above(n, p, found);
         if Block::ballot_fits(least) {
             return Some(least);

@@ -1,31 +1,13 @@
 -- Laws of commands: how one quotient tells the kind and a small piece at once, and that zero is no command.
 use Prim.Native.Nat.{ℕ, ◌/◌, ◌%◌, ◌≤◌}
 use mathlib.Core.Path.{◌≡◌, refl, ◌∙◌, sym, ap}
-use mathlib.Core.Bool.{true, false, ◌&&◌, ◌||◌, or-false, true≢false}
-use mathlib.Core.Logic.{◌⊎◌, ⊎_elim}
+use mathlib.Core.Bool.{true, false, true≢false}
 use mathlib.Core.List.{List}
 use native.Mathlib.Omega.{arith}
-use lib.ListN.{get_or}
 use lib.Dec.{eqb, leb}
 use borrow.Author.Tests.{ne_eqb, le-leb, leb-true}
 use Rattle.lemmas.proofs.Tests.{by_test}
 use Rattle.command.specs.Command.{kind_of, piece_of, limit_of, hoard_fits, is_command}
-
--- a command of kind 1 or 2
-pub enters_or_moves
-    : (limits : List ℕ) (v : ℕ) → (v / 16384 ≡ 4) ⊎ (v / 16384 ≡ 8)
-    → (leb 1 (v % 256) && leb (v % 256) (get_or limits (v / 2048 % 8) 0)) ≡ is_command limits v
-unfolding is_command hoard_fits limit_of
-enters_or_moves limits v h =
-    let small : leb (piece_of v) 63 ≡ true = le-leb (piece_of v) 63 (⊎_elim (λ e. omega arith) (λ e. omega arith) h) in
-    let kind : (eqb (kind_of v) 1 || eqb (kind_of v) 2) ≡ true =
-    ⊎_elim
-    (λ e. let k : kind_of v ≡ 1 = omega arith in rw k)
-    (λ e. let k : kind_of v ≡ 2 = omega arith in rw k)
-    h in
-    let none : eqb (kind_of v) 3 ≡ false = ne_eqb (kind_of v) 3 (⊎_elim (λ e k. omega arith) (λ e k. omega arith) h) in
-    let cabinet : v / 2048 % 8 ≡ piece_of v / 8 = ⊎_elim (λ e. omega arith) (λ e. omega arith) h in
-    simp (small, kind, none, cabinet, or-false)
 
 -- a command of kind 3
 pub strikes : (limits : List ℕ) (v : ℕ) → v / 16384 ≡ 12 → eqb (v % 256) 0 ≡ is_command limits v

@@ -5,16 +5,21 @@ ghost use Rattle.std.specs.Prelude.{◌≡◌};
 ghost use Rattle.command.specs.Command.{kind_of, piece_of, hoard_of, is_command, cabinet_limits};
 ghost use Rattle.command.specs.Tops.{byte_of, tops_of, value_by};
 
+use kinds::Kind;
+
 // The kinds of command, as an enum.
 pub mod kinds;
 
 // The largest hoard of cabinets 0 to 7.
 pub const LIMITS: [u32; 8] = [255, 255, 200, 200, 120, 120, 60, 60];
 
-// The least strike.
+// There are the pieces 0 to 63.
+const PIECES: u32 = 64;
+
+// The least strike. The table ends below it.
 const STRIKES: u32 = 196608;
 
-// 1 enter, 2 move, 3 strike.
+// The number of the kind, which `Kind::try_from` takes: 1 enter, 2 move, 3 strike.
 pub fn kind(v: u32) -> u32
     ensures { result ≡ kind_of v }
 {
@@ -40,20 +45,20 @@ pub fn limits() -> [u32; 8]
     LIMITS
 }
 
-// Whether v is a command where each cabinet has the limit given. One test finds the kind and that the piece is
-// below 64: v / 16384 is four times the kind, and above that where the piece is too large.
-#[tactic(auto, using(crate::proofs::Laws::enters_or_moves, crate::proofs::Laws::strikes, crate::proofs::Laws::no_command))]
+// Whether v is a command where each cabinet has the limit given.
+#[tactic(auto, unfolding(crate::specs::Command::is_command, crate::specs::Command::hoard_fits, crate::specs::Command::limit_of))]
 pub fn is_command(limits: &[u32; 8], v: u32) -> bool
     ensures { result ≡ is_command limits.now v }
 {
-    let hoard = v % 256;
-    match v / 16384 {
-        4 | 8 => {
-            let cabinet = (v / 2048 % 8) as usize;
-            (1 <= hoard) & (hoard <= limits[cabinet])
-        }
-        12 => hoard == 0,
-        _ => false,
+    let piece = piece(v);
+    let hoard = hoard(v);
+    if PIECES <= piece {
+        return false;
+    }
+    match Kind::try_from(kind(v)) {
+        Ok(Kind::Enter | Kind::Move) => (1..=limits[piece as usize / 8]).contains(&hoard),
+        Ok(Kind::Strike) => hoard == 0,
+        Err(_) => false,
     }
 }
 
@@ -79,7 +84,8 @@ fn byte(limit: u32) -> u8
     limit.min(255) as u8
 }
 
-// Whether v is 0 or a command, by one look into the table.
+// Whether v is 0 or a command, by one look into the table. v / 16384 is four times the kind, and more where the piece is too
+// large, so 12 is a strike of a piece.
 #[tactic(auto, unfolding(crate::specs::Tops::value_by))]
 pub fn is_value(tops: &[u8; 96], v: u32) -> bool
     ensures { result ≡ value_by tops.now v }

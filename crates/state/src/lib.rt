@@ -44,7 +44,8 @@ impl Block {
         ballot <= Block::LIMIT
     }
 
-    // Whether the two blocks are equal, cell by cell.
+    // Whether the two blocks are equal. A derived `==` stops at the first cell that differs, and then no four blocks are compared
+    // as vectors: to judge the largest room takes up to twice the time.
     #[tactic(auto, unfolding(crate::specs::Block::same_block))]
     pub fn same(self, other: Block) -> bool
         ensures { result ≡ same_block self other }
@@ -57,7 +58,8 @@ impl Block {
 }
 
 // A server's record in one slot (SPEC, "The room in memory"). Seenbal and seeninp are the best bal met in this phase and its
-// inp, top is the largest mbal recalled in phase 0, agreed is the command that the slot was settled with.
+// inp, top is the largest mbal recalled in phase 0, agreed is the command that the slot was settled with. Phase, 0 to 3, is
+// no enum: the rules hold of whatever number stands in the lent cell, and an enum would ask callers for one of these four.
 #[derive(Clone, Copy)]
 pub struct Server {
     pub phase: u32,
@@ -75,35 +77,41 @@ pub struct Server {
 
 impl Server {
     // The record in this phase and with these own mbal, bal and inp.
-    pub fn with_own(mut self, phase: u32, mbal: u32, bal: u32, inp: u32) -> Server
+    pub fn with_own(self, phase: u32, mbal: u32, bal: u32, inp: u32) -> Server
         ensures { result ≡ with_own self phase mbal bal inp }
     {
-        self.phase = phase;
-        self.mbal = mbal;
-        self.bal = bal;
-        self.inp = inp;
-        self
+        Server {
+            phase,
+            mbal,
+            bal,
+            inp,
+            ..self
+        }
     }
 
     // The notes of a phase that begins.
-    pub fn cleared(mut self) -> Server
+    pub fn cleared(self) -> Server
         ensures { result ≡ cleared self }
     {
-        self.written = 0;
-        self.read = 0;
-        self.top = 0;
-        self.seenbal = self.bal;
-        self.seeninp = self.inp;
-        self
+        Server {
+            written: 0,
+            read: 0,
+            top: 0,
+            seenbal: self.bal,
+            seeninp: self.inp,
+            ..self
+        }
     }
 
     // The record in phase 3, where the slot is settled with this command.
-    pub fn with_agreed(mut self, command: u32) -> Server
+    pub fn with_agreed(self, command: u32) -> Server
         ensures { result ≡ with_agreed self command }
     {
-        self.phase = 3;
-        self.agreed = command;
-        self
+        Server {
+            phase: 3,
+            agreed: command,
+            ..self
+        }
     }
 
     // The record of a server that has failed: nothing is left of it.
@@ -111,26 +119,27 @@ impl Server {
         ensures { result ≡ failed }
     {
         let own = Block::BLANK;
-        let mut v = self.with_own(0, own.mbal, own.bal, own.inp);
-        v.offer = 0;
-        v.agreed = own.done;
-        v.cleared()
+        Server {
+            offer: 0,
+            agreed: own.done,
+            ..self.with_own(0, own.mbal, own.bal, own.inp)
+        }
+        .cleared()
     }
 
     // The block that the server would write: done says what its output is.
     pub fn own_block(self) -> Block
         ensures { result ≡ own_block self }
     {
-        let done = self.output();
         Block {
             mbal: self.mbal,
             bal: self.bal,
             inp: self.inp,
-            done,
+            done: self.output(),
         }
     }
 
-    // The command that the slot was settled with, as far as this server knows; 0 is none.
+    // The command that the slot was settled with, as far as this server knows. 0 is none, as in the cell that it comes from.
     pub fn output(self) -> u32
         ensures { result ≡ output_of self }
     {
@@ -180,7 +189,8 @@ pub enum Answer {
     Committed(u32),
 }
 
-// The word of what a step answers: 0 done, 1 outbid, 2 chosen, 3 committed, 4 refused.
+// The word of what a step answers, for C: 0 done, 1 outbid, 2 chosen, 3 committed, 4 refused. It is a function, since both
+// types of a `From` would be std's.
 pub fn code(answered: Result<Answer, Refusal>) -> u32
     ensures { result ≡ code_of answered }
 {
