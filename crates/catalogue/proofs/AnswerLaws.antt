@@ -12,7 +12,7 @@ use Rattle.lemmas.proofs.Tests.{by_test}
 use Rattle.std.specs.Prelude.{Result, Ok, Err}
 use Rattle.checks.specs.declared.Refusal.{Refusal}
 use Rattle.checks.specs.Refusals.{Possible, refusal_number, refusal_in, refusals_of, numbers_of, rises, lowest}
-use Rattle.checks.proofs.LowestLaws.{first_applies, least_applies, refusal_leaves}
+use Rattle.checks.proofs.LowestLaws.{first_applies, least_applies, left_as_it_was}
 use Rattle.state.specs.declared.Sizes.{Sizes}
 use Rattle.layout.specs.Cells.{sizes_of}
 use Rattle.range.specs.Range.{in_range}
@@ -133,4 +133,4 @@ module _ (room : List ℕ) (server : ℕ) (out : List ℕ) where
   -- a refusal leaves every cell as it was
   pub catalogue_leaves : (refusal_in (catalogue_of room server out) ≡ 0 → ⊥) → catalogue_cells room server out ≡ out
   unfolding catalogue_cells
-  catalogue_leaves h = refusal_leaves _ out (catalogue_of room server out) h
+  catalogue_leaves h = left_as_it_was _ out (catalogue_of room server out) h

@@ -1,7 +1,7 @@
 -- Laws of the call: its answers in the order of the checks, each with the cells that it leaves, and what a room in range
 -- has for it.
 use Prim.Native.Nat.{ℕ, ◌≤◌, ◌<◌}
-use mathlib.Core.Path.{◌≡◌, ◌∙◌, sym, ap}
+use mathlib.Core.Path.{◌≡◌, ◌∙◌, sym, ap, subst⁻¹}
 use mathlib.Core.Bool.{true, false}
 use mathlib.Core.List.{List}
 use lib.ListN.{length}
@@ -12,9 +12,8 @@ use Rattle.checks.specs.declared.Refusal.{Refusal}
 use Rattle.checks.specs.declared.Refusal.TheVariants.{WrongLength, OutOfRange, BeyondRoom}
 use Rattle.checks.specs.Checks.{must, left_by}
 use Rattle.checks.proofs.CheckLaws.{passes, fails}
-use Rattle.layout.specs.Places.{base}
+use Rattle.state.specs.declared.Sizes.{Sizes}
 use Rattle.layout.specs.Cells.{sizes_of, limits_of}
-use Rattle.layout.proofs.PlaceLaws.{row_head}
 use Rattle.range.specs.Range.{in_range}
 use Rattle.range.proofs.Laws.{range_says}
 use Rattle.catalogue.specs.Fold.{pieces}
@@ -22,18 +21,16 @@ use Rattle.catalogue.specs.Call.{entries_of, counted, catalogue_checks, catalogu
 use Rattle.catalogue.specs.declared.Counts.{Counts}
 use Rattle.catalogue.proofs.OutputLaws.{output_piece}
 
--- a room in range has the cells of its sizes, at most four servers, and outputs that can be listed
+-- a room in range has at most four servers, and outputs that can be listed
 module _ (room : List ℕ) (range : in_range room ≡ true) where
-  pub room_head : base ≤ length room
-  room_head = row_head (sizes_of room) room (range_says room range).row
-
   pub room_servers : (sizes_of room).servers ≤ 4
   room_servers = (range_says room range).row.fit.servers
 
-  pub listable : (p : ℕ) → p < (sizes_of room).servers → Listable (sizes_of room) room p
-  listable p h =
+  pub listable : (z : Sizes) (p : ℕ) → z ≡ sizes_of room → p < z.servers → Listable z room p
+  listable z p e =
       let i = range_says room range in
-      record { row = i.row; server = h; within = λ s l. output_piece (limits_of room) (sizes_of room) room i p h s l }
+      subst⁻¹ (λ (y : Sizes). p < y.servers → Listable y room p) e
+      (λ h. record { server = h; within = λ s l. output_piece (limits_of room) (sizes_of room) room i p h s l })
 
 -- the answers in the order of the checks, each with the cells that it leaves
 module _ (room : List ℕ) (server : ℕ) (out : List ℕ) where

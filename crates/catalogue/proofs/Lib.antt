@@ -1,6 +1,5 @@
--- Laws of the catalogue, for the crates above: one command, the fold, struck pieces, the outputs taken, the loop over
+-- Laws of the catalogue, for the crates above: the fold, struck pieces, the outputs taken, the loop over
 -- the slots, the call's checks, its answers.
-pub mod ApplyLaws
 pub mod FoldLaws
 pub mod StruckLaws
 pub mod OutputLaws

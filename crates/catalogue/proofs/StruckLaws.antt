@@ -1,16 +1,16 @@
 -- Struck numbers stay struck (SPEC, "The catalogue"): what a strike does to an entered piece, what any command does to a
 -- struck one, and that no list of commands brings it back.
 use Prim.Native.Nat.{ℕ}
-use mathlib.Core.Path.{◌≡◌, refl, ◌∙◌, sym, ap, ap₂}
+use mathlib.Core.Path.{◌≡◌, refl, ◌∙◌, ap, ap₂}
 use mathlib.Core.Bool.{Bool, true, false, not, ◌||◌, cond}
 use mathlib.Core.List.{List}
 use lib.ListN.{get_or, set}
+use lib.Seq.{set-get_or}
 use lib.Dec.{eqb}
 use Rattle.lemmas.proofs.Tests.{none_right}
 use Rattle.command.specs.Command.{enter, move, strike, kind_of, piece_of, hoard_of}
 use Rattle.catalogue.specs.Entry.{struck, entered, applies, changed, entry}
 use Rattle.catalogue.specs.Fold.{Entries, cell_of, cells_after, skipped_by, folded}
-use Rattle.catalogue.proofs.ApplyLaws.{left_alone, set_anew}
 use Rattle.catalogue.proofs.FoldLaws.{fold_keeps}
 
 -- no command does anything to a struck cell
@@ -30,16 +30,15 @@ module _ (cells : List ℕ) (v : ℕ) where
   pub strike_strikes
       : kind_of v ≡ strike → entered (cell_of cells v) ≡ true
       → (cells_after cells v ≡ set cells (piece_of v) struck) × (skipped_by cells v ≡ 0)
-  unfolding applies
-  strike_strikes k e =
-      let a = set_anew cells v strike (piece_of v) (sym k) refl struck e (sym (ap (λ (n : ℕ). changed n (hoard_of v)) k)) in
-      (sym a.1, sym a.0)
+  unfolding applies entry cells_after skipped_by
+  strike_strikes k e = (simp (k, e), simp (k, e))
 
   -- any command on a struck piece changes no cell, and is counted as skipped
   pub struck_skipped : cell_of cells v ≡ struck → (cells_after cells v ≡ cells) × (skipped_by cells v ≡ 1)
+  unfolding entry cells_after skipped_by
   struck_skipped e =
-      let a = left_alone cells v (kind_of v) (piece_of v) refl refl (ap (applies (kind_of v)) e ∙ never_applies (kind_of v)) in
-      (sym a.1, sym a.0)
+      let n = ap (applies (kind_of v)) e ∙ never_applies (kind_of v) in
+      (simp (n, set-get_or), simp n)
 
 -- what is struck stays struck, whatever commands follow
 pub struck_stays

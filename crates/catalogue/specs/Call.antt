@@ -6,7 +6,6 @@ use Rattle.checks.specs.declared.Refusal.TheVariants.{WrongLength, OutOfRange, B
 use Rattle.checks.specs.Checks.{Checked, Must, Gives, outcome, left_by}
 use Rattle.command.specs.Command.{piece_of}
 use Rattle.state.specs.declared.Sizes.{Sizes}
-use Rattle.layout.specs.Places.{Row}
 use Rattle.layout.specs.Cells.{sizes_of}
 use Rattle.range.specs.Range.{in_range}
 use Rattle.catalogue.specs.Fold.{pieces, Entries, folded, start}
@@ -38,8 +37,7 @@ unfoldable pub catalogue_cells : List ℕ → ℕ → List ℕ → List ℕ
 catalogue_cells room server out =
     left_by (λ c. (entries_of (sizes_of room) room server).cells) out (catalogue_of room server out)
 
--- what the loop over the slots needs of a room in range
+-- what the loop over the slots needs beside a room
 pub record Listable (z : Sizes) (room : List ℕ) (p : ℕ) : Type 0 where
-  pub row : Row z room
   pub server : p < z.servers
   pub within : (s : ℕ) → s < z.slots → piece_of (output_at z room p s) < pieces

@@ -5,10 +5,12 @@ use mathlib.Core.Path.{◌≡◌, refl, sym, ap, subst}
 use mathlib.Core.Bool.{Bool, true, false}
 use mathlib.Core.List.{List, [], ◌∷◌, Memᴰ}
 use native.Mathlib.Omega.{arith}
+use native.Mathlib.Decide.{dec_lt}
 use lib.Dec.{ltb, eqb}
 use borrow.Author.Tests.{lt-ltb, ltb-true, ltb-false, eqb-true, eqb-false}
 use Rattle.lemmas.proofs.Tests.{by_test, clash}
-use Rattle.std.specs.Prelude.{Result, Ok, Err}
+use Rattle.std.specs.Prelude.{Option, None, Some, Result, Ok, Err}
+use Rattle.std.specs.Option.{MatchOption, unwrap_or}
 use Rattle.checks.specs.declared.Refusal.{Refusal}
 use Rattle.checks.specs.declared.Refusal.TheVariants.{OutOfRange, BeyondRoom, NoSlotFree}
 use Rattle.checks.specs.Checks.{must}
@@ -27,19 +29,6 @@ pub record First (f : ℕ → Bool) (s n r : ℕ) : Type 0 where
   pub here : r < s + n → f r ≡ true
 
 module _ (f : ℕ → Bool) where
-  pub first_none : (s : ℕ) → first_from f s 0 ≡ s
-  unfolding first_from
-  first_none s = refl
-
-  pub first_here : (s n : ℕ) → f s ≡ true → first_from f s n ≡ s
-  unfolding first_from
-  first_here s zero e = refl
-  first_here s (suc n) e = simp e
-
-  pub first_later : (s n : ℕ) → f s ≡ false → first_from f s (suc n) ≡ first_from f (suc s) n
-  unfolding first_from
-  first_later s n e = simp e
-
   first_more : (s n r : ℕ) → f s ≡ false → First f (suc s) n r → First f s (suc n) r
   first_more s n r e i =
       record {
@@ -60,6 +49,31 @@ module _ (f : ℕ → Bool) where
       by_test (f s)
       (λ e. rw e (record { from = omega arith; most = omega arith; lower = λ t a b. absurd (omega arith); here = λ a. e }))
       (λ e. rw e (first_more s n (first_from f (suc s) n) e (first (suc s) n)))
+
+  -- a number is the first of n if f holds at none below it, and at it if it is one of them
+  is_first_from
+      : (n r : ℕ) → r ≤ n → ((t : ℕ) → 0 ≤ t → t < r → f t ≡ false) → (r < n → f r ≡ true) → r ≡ first_from f 0 n
+  is_first_from n r most lower here = by_order (dec_lt r x) (dec_lt x r)
+    where
+      x : ℕ
+      x = first_from f 0 n
+
+      i : First f 0 n x
+      i = first 0 n
+
+      by_order : Dec (r < x) → Dec (x < r) → r ≡ x
+      by_order (yes l) b = clash (f r) (here (omega (arith, i.most))) (i.lower r (omega arith) l)
+      by_order (no a) (yes l) = clash (f x) (i.here (omega arith)) (lower x (omega arith) l)
+      by_order (no a) (no b) = omega arith
+
+  -- what a search of the first n numbers answers
+  pub first_found
+      : (n : ℕ) (r : Option ℕ)
+      → MatchOption r ((t : ℕ) → 0 ≤ t → t < n → f t ≡ false)
+      (λ s. (0 ≤ s) × (s < n) × (f s ≡ true) × ((t : ℕ) → 0 ≤ t → t < s → f t ≡ false))
+      → unwrap_or r n ≡ first_from f 0 n
+  first_found n None h = is_first_from n n (omega arith) h (λ l. absurd (omega arith))
+  first_found n (Some s) h = is_first_from n s (omega (arith, h.1)) h.3 (λ l. h.2)
 
 module _ (cells : List ℕ) (p : ℕ) where
   -- whether slot s of this room is free for the server

@@ -4,40 +4,41 @@ ghost use Rattle.synod.specs.Rules.{ruling};
 ghost use Rattle.free_slots.specs.Put.{put_rule, put_answered, put_cells};
 
 use checks::Refusal;
+use layout::rooms::{Room, RoomMut};
 use state::Answer;
 use synod::Ruling;
 
 // Offers the command, as the step Offer does, where the slot is free for the server. Refused with 3 where the row is no room
 // in range, with 4 where the server or the slot is beyond the room, with 5 where the number is no command, and with 16 where
 // the slot is not free; then no cell changes.
-#[tactic(auto, unfolding(crate::specs::Put::put_answered, crate::specs::Put::put_cells, crate::specs::Put::put_judged, room::specs::Step::settled))]
+#[tactic(auto, using(crate::proofs::PutLaws::put_placed), unfolding(crate::specs::Put::put_answered, crate::specs::Put::put_cells, crate::specs::Put::put_judged, room::specs::Step::settled))]
 pub fn put(room: &mut [u32], server: u32, slot: u32, command: u32) -> Result<Answer, Refusal>
     ensures { (result ≡ put_answered room.old server slot command)
         × (room.new ≡ put_cells room.old server slot command) }
 {
     let (record, answer) = judge_put(room, server, slot, command)?;
-    let z = layout::sizes(room);
-    layout::store_server(room, z, slot as u8, server as u8, record);
+    let mut room = RoomMut::new(room);
+    room.store_server(slot as u8, server as u8, record);
     Ok(answer)
 }
 
 // The checks of a Put, then the rule of Offer. Nothing is stored.
-#[tactic(auto, using(room::proofs::Ranged::ranged_head, room::proofs::Ranged::ranged_row), unfolding(checks::specs::Checks::must, crate::specs::Put::put_rule, crate::specs::Ask::free_at))]
+#[tactic(auto, using(range::proofs::Laws::ranged_row), unfolding(checks::specs::Checks::must, crate::specs::Put::put_rule, crate::specs::Ask::free_at))]
 fn judge_put(room: &[u32], server: u32, slot: u32, command: u32) -> Ruling
     ensures { result ≡ ruling (put_rule room.now server slot command) }
 {
     if !range::in_range(room) {
         return Err(Refusal::OutOfRange);
     }
-    let z = layout::sizes(room);
-    if !((server < z.servers) & (slot < z.slots)) {
+    let limits = layout::limits(room);
+    let room = Room::new(room);
+    if !((server < room.sizes.servers) & (slot < room.sizes.slots)) {
         return Err(Refusal::BeyondRoom);
     }
-    let limits = layout::limits(room);
     if !command::is_command(&limits, command) {
         return Err(Refusal::NoCommand);
     }
-    let own = layout::server(room, z, slot as u8, server as u8);
+    let own = room.server(slot as u8, server as u8);
     if !own.is_free() {
         return Err(Refusal::SlotNotFree);
     }

@@ -1,6 +1,6 @@
 -- Laws of the range rule: the order of its tests, and what it says of each record and block.
 use Prim.Native.Nat.{ℕ, ◌+◌, ◌*◌, ◌<◌, ◌≤◌}
-use mathlib.Core.Path.{◌≡◌, ◌∙◌, sym, ap₂}
+use mathlib.Core.Path.{◌≡◌, ◌∙◌, sym, ap₂, subst⁻¹}
 use mathlib.Core.Bool.{Bool, true, false, ◌&&◌, and-false}
 use mathlib.Core.List.{List}
 use lib.ListN.{length}
@@ -105,6 +105,10 @@ pub range_says : (r : List ℕ) → in_range r ≡ true → InRange (limits_of r
 unfolding in_range
 range_says r e =
     cells_say (limits_of r) (sizes_of r) r (and_right (leb base (length r)) (cells_fit (limits_of r) (sizes_of r) r) e)
+
+-- it is a row of the sizes that it claims
+pub ranged_row : (r : List ℕ) (z : Sizes) → in_range r ≡ true → z ≡ sizes_of r → Row z r
+ranged_row r z e is = subst⁻¹ (λ (y : Sizes). Row y r) is (range_says r e).row
 
 pub Says-range
     : (limits : List ℕ) (z : Sizes) (r : List ℕ) → limits ≡ limits_of r → z ≡ sizes_of r → InRange limits z r

@@ -1,7 +1,7 @@
 -- Blocks by their cells, four at a time, and a row of cells in pieces.
 use Prim.Native.Nat.{ℕ, zero, suc, ◌+◌, ◌*◌, ◌/◌, ◌<◌}
 use mathlib.Core.Path.{◌≡◌, refl, ◌∙◌, sym, ap, ap₂}
-use mathlib.Core.Bool.{Bool, true, false, ◌&&◌, and-true, and-false, and_assoc}
+use mathlib.Core.Bool.{Bool, true, ◌&&◌, and-true, and_assoc}
 use mathlib.Core.List.{List, [], ◌∷◌, ◌++◌}
 use native.Mathlib.Omega.{arith}
 use lib.ListN.{length, get_or, take, drop}
@@ -17,6 +17,7 @@ use Rattle.std.proofs.Common.{Option, Some, None}
 use denote.Ref.{Bor}
 use Rattle.std.proofs.lemmas.List.Folds.{list_all-append, list_all-map}
 use Rattle.lemmas.proofs.Tests.{and_left, and_right, and_intro}
+use Rattle.quorum.proofs.AllBelow.{two_each}
 use Rattle.quorum.specs.Sets.{all_below}
 use Rattle.state.specs.declared.Block.{Block}
 use Rattle.state.specs.Block.{same_block}
@@ -32,11 +33,6 @@ list_all_then f g h [] e = refl
 list_all_then f g h (x ∷ xs) e =
     and_intro (g x) (list_all g xs) (h x (and_left (f x) (list_all f xs) e))
     (list_all_then f g h xs (and_right (f x) (list_all f xs) e))
-
-two_each : (a b x y : Bool) → (a && b && (x && y)) ≡ ((a && x) && (b && y))
-two_each true true x y = refl
-two_each true false x y = sym (and-false x)
-two_each false b x y = refl
 
 pub list_all_both
     : {X : Type 0} (f g : X → Bool) (xs : List X) → list_all (λ x. f x && g x) xs ≡ (list_all f xs && list_all g xs)

@@ -7,15 +7,16 @@ mod values;
 ghost use Rattle.std.specs.Prelude.{◌≡◌, ◌<◌, ◌≤◌, length};
 ghost use Rattle.std.specs.List.{list_all};
 ghost use Rattle.command.specs.Tops.{value_by};
-ghost use Rattle.layout.specs.Places.{server_length, block_length, Fit};
+ghost use Rattle.layout.specs.Places.{server_length, block_length};
 ghost use Rattle.layout.specs.Cells.{server_in};
 ghost use Rattle.range.specs.Range.{masks_of, numbers_fit, server_fits, block_fits, pieces, every_block, slot_in, in_range};
 
 use command::tops_of;
 use fours::{block, fours_fit};
-use layout::{BLOCK_CELLS, SERVER_CELLS, room_length, server_in, sizes, sizes_fit, slot_length};
+use layout::plan::Plan;
+use layout::{BLOCK_CELLS, SERVER_CELLS, server_in, sizes};
 use quorum::only_legal;
-use state::{Block, Server, Sizes};
+use state::{Block, Server};
 use values::{block_fits, own_values_fit};
 
 // The legal marks of drives, and of blocks read: made once for a room.
@@ -27,10 +28,10 @@ pub struct Masks {
 
 // A row of ones at every fourth bit, cut after the last drive, times the ones of the servers.
 #[tactic(auto, using(crate::proofs::MaskTable::drive_mask, crate::proofs::MaskTable::read_mask))]
-pub fn masks_of(z: Sizes) -> Masks
-    requires { Fit z }
-    ensures { result ≡ masks_of z }
+pub fn masks_of(plan: Plan) -> Masks
+    ensures { result ≡ masks_of plan.sizes }
 {
+    let z = plan.sizes;
     Masks {
         drives: (1 << z.drives) - 1,
         reads: ((1 << z.servers) - 1) * (0x1111111 % (1 << (4 * z.drives))),
@@ -45,14 +46,13 @@ pub fn in_range(room: &[u32]) -> bool
         return false;
     }
     let limits = layout::limits(room);
-    let z = sizes(room);
-    if !sizes_fit(z) {
+    let Some(plan) = Plan::of(sizes(room)) else {
+        return false;
+    };
+    if room.len() != plan.room_length() {
         return false;
     }
-    if room.len() != room_length(z) {
-        return false;
-    }
-    let k = masks_of(z);
+    let k = masks_of(plan);
     if !only_legal(room[layout::OFF], k.drives) {
         return false;
     }
@@ -60,8 +60,8 @@ pub fn in_range(room: &[u32]) -> bool
         tops: tops_of(&limits),
         marks: k,
     };
-    let records = SERVER_CELLS * (z.servers as usize);
-    legal.slots_fit(&room[layout::BASE..], slot_length(z), records)
+    let records = SERVER_CELLS * (plan.sizes.servers as usize);
+    legal.slots_fit(&room[layout::BASE..], plan.slot_length(), records)
 }
 
 // What a room's cells are judged by: the table of values, by the room's limits, and the legal marks.

@@ -18,6 +18,7 @@ use Rattle.layout.specs.Cells.{sizes_of}
 use Rattle.range.proofs.Laws.{range_says}
 use Rattle.room.specs.Judge.{effect_at, effect_by, rule_at, effect_of, judged}
 use Rattle.room.specs.declared.effect.Effect.{Effect}
+use Rattle.room.specs.declared.effect.Effect.TheVariants as effect
 use Rattle.room.specs.Ready.{ReadyAt, Ready}
 use Rattle.synod.proofs.Places.{InView, in_view}
 use Rattle.room.proofs.Checks.{by_checks}
@@ -49,3 +50,10 @@ judged_ready r st e is =
     subst (ReadyIf (sizes_of r) r) is
     (by_checks r st (ReadyIf (sizes_of r) r) (λ a. tt) (λ a b. tt) (λ a b c. tt)
     (λ a b c. effect_ready (sizes_of r) r (range_says r a).row st b))
+
+-- what is ready to be stored is stored in a room
+pub ready_row : (r : List ℕ) (e : Effect) → Ready r e → Row (sizes_of r) r
+ready_row r (effect.Record s p v a) h = h.row
+ready_row r (effect.Block s d p v) h = h.0.row
+ready_row r (effect.Failure p) h = h.0
+ready_row r (effect.Off marks) h = h

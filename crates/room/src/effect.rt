@@ -1,14 +1,13 @@
 // What a step would answer and store.
 ghost use Rattle.std.specs.Prelude.{◌≡◌, true};
-ghost use Rattle.layout.specs.Places.{Row};
 ghost use Rattle.synod.specs.Arguments.{places_fit};
 ghost use Rattle.checks.specs.Checks.{mapped};
 ghost use Rattle.room.specs.Judge.{recording, effect_of, judged, answer_of};
 
 use checks::Refusal;
-use layout::{block, server};
+use layout::rooms::Room;
 use quorum::{with_mark, without_mark};
-use state::{Answer, Server, Sizes, Step};
+use state::{Answer, Server, Step};
 use synod::Ruling;
 
 // The places and values that an accepted step stores: a server's record, for Write its block too, a server's failure
@@ -46,48 +45,49 @@ impl Effect {
 }
 
 // Judges a step on a row: the room, the step's numbers, then the rule of its kind. Nothing is stored.
-#[tactic(auto, using(crate::proofs::Checks::refused_3, crate::proofs::Checks::refused_4, crate::proofs::Checks::refused_5, crate::proofs::Checks::passed, crate::proofs::Ranged::ranged_head, crate::proofs::Ranged::ranged_row))]
+#[tactic(auto, using(crate::proofs::Checks::refused_3, crate::proofs::Checks::refused_4, crate::proofs::Checks::refused_5, crate::proofs::Checks::passed, range::proofs::Laws::ranged_row))]
 pub fn judge(room: &[u32], step: Step) -> Result<Effect, Refusal>
     ensures { result ≡ judged room.now step }
 {
     if !range::in_range(room) {
         return Err(Refusal::OutOfRange);
     }
-    let z = layout::sizes(room);
-    if !arguments::places_fit(z, step) {
+    let limits = layout::limits(room);
+    let room = Room::new(room);
+    if !arguments::places_fit(room.sizes, step) {
         return Err(Refusal::BeyondRoom);
     }
-    let limits = layout::limits(room);
     if !arguments::command_fits(&limits, step) {
         return Err(Refusal::NoCommand);
     }
-    rule(room, z, step)
+    rule(&room, step)
 }
 
 // The rule of the step's kind, on the record and the block that it names.
-#[tactic(auto, unfolding(crate::specs::Judge::effect_of, synod::specs::Rules::rule_of))]
-fn rule(room: &[u32], z: Sizes, step: Step) -> Result<Effect, Refusal>
-    requires { Row z room.now × (places_fit z step ≡ true) }
-    ensures { result ≡ effect_of z room.now step }
+#[tactic(auto, unfolding(crate::specs::Judge::effect_of, synod::specs::Rules::rule_of, synod::specs::Arguments::places_fit))]
+fn rule(room: &Room, step: Step) -> Result<Effect, Refusal>
+    requires { places_fit room.now.sizes step ≡ true }
+    ensures { result ≡ effect_of room.now.sizes room.now.cells.now step }
 {
-    let off = room[layout::OFF];
+    let z = room.sizes;
+    let off = room.off();
     match step {
-        Step::Offer(p, s, command) => recorded(s, p, rules::offer(server(room, z, s, p), command)),
+        Step::Offer(p, s, command) => recorded(s, p, rules::offer(room.server(s, p), command)),
         Step::Recall(p, s, d) => {
-            let v = server(room, z, s, p);
-            let b = block(room, z, s, d, p);
+            let v = room.server(s, p);
+            let b = room.block(s, d, p);
             recorded(s, p, rules::recall(off, v, b, p, d))
         }
         Step::Rejoin(p, s, ballot) => {
-            let v = server(room, z, s, p);
+            let v = room.server(s, p);
             recorded(s, p, rules::rejoin(z.servers, z.drives, v, p, ballot))
         }
         Step::Bid(p, s, ballot) => {
-            let v = server(room, z, s, p);
+            let v = room.server(s, p);
             recorded(s, p, rules::bid(z.servers, v, p, ballot))
         }
         Step::Write(p, s, d) => {
-            let (record, _) = rules::write(off, server(room, z, s, p), d)?;
+            let (record, _) = rules::write(off, room.server(s, p), d)?;
             Ok(Effect::Block {
                 slot: s,
                 drive: d,
@@ -96,12 +96,12 @@ fn rule(room: &[u32], z: Sizes, step: Step) -> Result<Effect, Refusal>
             })
         }
         Step::Read(p, s, d, q) => {
-            let v = server(room, z, s, p);
-            let b = block(room, z, s, d, q);
+            let v = room.server(s, p);
+            let b = room.block(s, d, q);
             recorded(s, p, rules::read(z.servers, off, v, b, p, d, q))
         }
         Step::Finish(p, s) => {
-            let v = server(room, z, s, p);
+            let v = room.server(s, p);
             recorded(s, p, rules::finish(z.servers, z.drives, v, p))
         }
         Step::Fail(p) => Ok(Effect::Failure { server: p }),

@@ -1,14 +1,13 @@
 // One step on a lent room.
 ghost use Rattle.std.specs.Prelude.{◌≡◌, ◌<◌};
-ghost use Rattle.layout.specs.Places.{Row};
 ghost use Rattle.layout.specs.Cells.{sizes_of};
 ghost use Rattle.room.specs.Ready.{Ready};
 ghost use Rattle.room.specs.Step.{failed_below, settled, answered, stepped};
 
 use crate::effect::{Effect, judge};
 use checks::Refusal;
-use layout::{server, sizes, store_block, store_server};
-use state::{Answer, Sizes, Step};
+use layout::rooms::RoomMut;
+use state::{Answer, Step};
 
 // Judges the step and stores what it changes. A refusal changes no cell.
 #[tactic(auto, using(crate::proofs::ReadyLaws::judged_ready), unfolding(crate::specs::Step::answered, crate::specs::Step::stepped))]
@@ -21,51 +20,42 @@ pub fn step(room: &mut [u32], step: Step) -> Result<Answer, Refusal>
 }
 
 // Stores what the effect says.
-#[tactic(auto, using(layout::proofs::PlaceLaws::row_head), unfolding(crate::specs::Step::settled))]
+#[tactic(auto, using(crate::proofs::ReadyLaws::ready_row), unfolding(crate::specs::Step::settled))]
 fn settle(room: &mut [u32], e: Effect)
     requires { Ready room.old e }
     ensures { room.new ≡ settled (sizes_of room.old) room.old e }
 {
+    let mut room = RoomMut::new(room);
     match e {
         Effect::Record {
             slot,
             server,
             record,
             answer: _,
-        } => {
-            let z = sizes(room);
-            store_server(room, z, slot, server, record);
-        }
+        } => room.store_server(slot, server, record),
         Effect::Block {
             slot,
             drive,
             server,
             record,
         } => {
-            let z = sizes(room);
-            store_server(room, z, slot, server, record);
-            store_block(room, z, slot, drive, server, record.own_block());
+            room.store_server(slot, server, record);
+            room.store_block(slot, drive, server, record.own_block());
         }
-        Effect::Failure { server } => {
-            let z = sizes(room);
-            fail(room, z, server);
-        }
-        Effect::Off(marks) => {
-            room[layout::OFF] = marks;
-        }
+        Effect::Failure { server } => fail(&mut room, server),
+        Effect::Off(marks) => room.store_off(marks),
     }
 }
 
 // Server p fails in every slot.
 #[tactic(auto, unfolding(crate::specs::Step::failed_below))]
-fn fail(room: &mut [u32], z: Sizes, p: u8)
-    requires { Row z room.old × (p < z.servers) }
-    ensures { room.new ≡ failed_below z p z.slots room.old }
+fn fail(room: &mut RoomMut, p: u8)
+    requires { p < room.old.sizes.servers }
+    ensures same_reference { room.new.cells.ghost_name ≡ room.old.cells.ghost_name }
+    ensures cells { room.new.cells.now ≡ failed_below room.old.sizes p room.old.sizes.slots room.old.cells.now }
 {
-    let mut s: u8 = 0;
-    while (s as u32) < z.slots {
-        let v = server(room, z, s, p).failed();
-        store_server(room, z, s, p, v);
-        s += 1;
+    for s in 0..room.sizes.slots {
+        let v = room.as_room().server(s as u8, p).failed();
+        room.store_server(s as u8, p, v);
     }
 }

@@ -6,7 +6,7 @@ use Rattle.catalogue.proofs.ListLaws.{left_first, left_next}
 use Rattle.catalogue.proofs.list.Goals as goal
 
 pub loop-k-init : goal.loop-k-init
-loop-k-init c = let a = c.args in left_first a.z a.room.now a.p a.out.now c.requires.1
+loop-k-init c = let a = c.args in left_first a.room.now.sizes a.room.now.cells.now a.p a.out.now c.requires.1
 
 -- what was read in slot k is the output there
 pub loop-k-preserved : goal.loop-k-preserved

@@ -13,7 +13,7 @@ use Rattle.quorum.specs.Sets.{all_below, within}
 use Rattle.state.specs.declared.Sizes.{Sizes}
 use Rattle.layout.specs.Places.{base, server_length, slot_length, room_length, Row}
 use Rattle.layout.specs.Cells.{off_of}
-use Rattle.layout.proofs.PlaceLaws.{fit_of}
+use Rattle.layout.proofs.PlaceLaws.{of_fit}
 use Rattle.range.specs.declared.Masks.{Masks}
 use Rattle.range.specs.Range.{legal_drives, masks_of, value_fits, slot_fits, pieces, slot_in}
 use Rattle.range.proofs.Laws.{short_row, row_of, no_sizes, no_length, no_off, then_slots}
@@ -42,61 +42,49 @@ slots limits z row tops k l x r e f h judged =
 pub returns-then-room-lt-BASE : goal.returns-then-room-lt-BASE
 returns-then-room-lt-BASE c = sym (short_row c.args.room.now c.if-room-lt-BASE.true)
 
-pub returns-then-not-sizes_fit : goal.returns-then-not-sizes_fit
-returns-then-not-sizes_fit c =
+pub returns-in_default : goal.returns-in_default
+returns-in_default c =
     let row = c.args.room.now in
     let limits = c.limits-limits.result in
-    let z = c.sizes-z.result in
+    let z = c.sizes.result in
     sym
-    (row_of limits z row c.limits-limits.ensures c.sizes-z.ensures c.if-room-lt-BASE.false
-    ∙ no_sizes limits z row (sym c.sizes_fit.ensures ∙ c.if-not-sizes_fit.true))
-
-pub room_length-requires : goal.room_length-requires
-room_length-requires c = fit_of c.sizes-z.result (sym c.sizes_fit.ensures ∙ c.if-not-sizes_fit.false)
+    (row_of limits z row c.limits-limits.ensures c.sizes.ensures c.if-room-lt-BASE.false
+    ∙ no_sizes limits z row (sym c.in_default.ensures.fits))
 
 pub returns-then-room-room_length : goal.returns-then-room-room_length
 returns-then-room-room_length c =
     let row = c.args.room.now in
     let limits = c.limits-limits.result in
-    let z = c.sizes-z.result in
+    let z = c.in-Some.plan.sizes in
     let other = ne_eqb (length row) (room_length z) (λ e. omega (arith, c.if-room-room_length.true, c.room_length.ensures)) in
     sym
-    (row_of limits z row c.limits-limits.ensures c.sizes-z.ensures c.if-room-lt-BASE.false
+    (row_of limits z row c.limits-limits.ensures (c.in-Some.ensures.sizes ∙ c.sizes.ensures) c.if-room-lt-BASE.false
     ∙ no_length limits z row other)
-
-pub masks_of-k-requires : goal.masks_of-k-requires
-masks_of-k-requires c = fit_of c.sizes-z.result (sym c.sizes_fit.ensures ∙ c.if-not-sizes_fit.false)
 
 pub returns-then-not-only_legal : goal.returns-then-not-only_legal
 returns-then-not-only_legal c =
     let row = c.args.room.now in
     let limits = c.limits-limits.result in
-    let z = c.sizes-z.result in
+    let z = c.in-Some.plan.sizes in
     let judged = off z c.masks_of-k.result (off_of row) _ c.masks_of-k.ensures c.only_legal.ensures in
     sym
-    (row_of limits z row c.limits-limits.ensures c.sizes-z.ensures c.if-room-lt-BASE.false
+    (row_of limits z row c.limits-limits.ensures (c.in-Some.ensures.sizes ∙ c.sizes.ensures) c.if-room-lt-BASE.false
     ∙ no_off limits z row (sym judged ∙ c.if-not-only_legal.true))
-
-pub slot_length-requires : goal.slot_length-requires
-slot_length-requires c = fit_of c.sizes-z.result (sym c.sizes_fit.ensures ∙ c.if-not-sizes_fit.false)
 
 pub slots_fit-requires : goal.slots_fit-requires
 unfolding slot_length
-slots_fit-requires c =
-    let fit = fit_of c.sizes-z.result (sym c.sizes_fit.ensures ∙ c.if-not-sizes_fit.false) in
-    (omega (arith, fit, c.slot_length.ensures), omega (arith, c.slot_length.ensures))
+slots_fit-requires c = (omega (arith, c.in-Some.plan.fit, c.slot_length.ensures), omega (arith, c.slot_length.ensures))
 
 pub returns : goal.returns
 returns c =
     let row = c.args.room.now in
     let limits = c.limits-limits.result in
-    let z = c.sizes-z.result in
+    let plan = c.in-Some.plan in
+    let z = plan.sizes in
     let judged = off z c.masks_of-k.result (off_of row) _ c.masks_of-k.ensures c.only_legal.ensures in
-    let fit = fit_of z (sym c.sizes_fit.ensures ∙ c.if-not-sizes_fit.false) in
-    let r : Row z row = record { fit = fit; exact = omega (arith, c.if-room-room_length.false, c.room_length.ensures) } in
-    then_slots limits z row c.slots_fit.result
-    (sym c.sizes_fit.ensures ∙ c.if-not-sizes_fit.false)
-    (eq-eqb _ _ (omega (arith, c.if-room-room_length.false, c.room_length.ensures)))
+    let exact : length row ≡ room_length z = omega (arith, c.if-room-room_length.false, c.room_length.ensures) in
+    let r : Row z row = record { fit = plan.fit; exact = exact } in
+    then_slots limits z row c.slots_fit.result (of_fit z plan.fit) (eq-eqb _ _ exact)
     (sym judged ∙ c.if-not-only_legal.false)
     (slots limits z row _ _ _ _ r c.tops_of.ensures c.masks_of-k.ensures c.slot_length.ensures c.slots_fit.ensures)
-    ∙ sym (row_of limits z row c.limits-limits.ensures c.sizes-z.ensures c.if-room-lt-BASE.false)
+    ∙ sym (row_of limits z row c.limits-limits.ensures (c.in-Some.ensures.sizes ∙ c.sizes.ensures) c.if-room-lt-BASE.false)
