@@ -80,6 +80,6 @@ refusal_mapped f (Ok a) = refl
 refusal_mapped f (Err n) = refl
 
 -- a refusal leaves what was lent as it was
-pub refusal_leaves : {A B : Type 0} (makes : A → B) (old : B) (x : Result A Refusal) → (refusal_in x ≡ 0 → ⊥) → left_by makes old x ≡ old
-refusal_leaves makes old (Ok a) h = absurd (h refl)
-refusal_leaves makes old (Err n) h = refl
+pub left_as_it_was : {A B : Type 0} (makes : A → B) (old : B) (x : Result A Refusal) → (refusal_in x ≡ 0 → ⊥) → left_by makes old x ≡ old
+left_as_it_was makes old (Ok a) h = absurd (h refl)
+left_as_it_was makes old (Err n) h = refl

@@ -1,7 +1,7 @@
--- No two refusals share a number, which is 1 to 17.
+-- No two refusals share a number, and none has the number 0.
 use Prim.Native.Nat.{ℕ, ◌≤◌}
 use mathlib.Core.Path.{◌≡◌, refl, ◌∙◌, sym, ap}
-use mathlib.Core.List.{List, [], ◌∷◌}
+use mathlib.Core.List.{[], ◌∷◌}
 use native.Mathlib.Omega.{arith}
 use lib.ListN.{get_or}
 use Rattle.std.specs.Prelude.{Result, Ok, Err}
@@ -74,25 +74,6 @@ number_positive CutShort = omega arith
 number_positive Malformed = omega arith
 number_positive SlotNotFree = omega arith
 number_positive NoSlotFree = omega arith
-
-pub number_most : (r : Refusal) → refusal_number r ≤ 17
-number_most SizesUnfit = omega arith
-number_most WrongLength = omega arith
-number_most OutOfRange = omega arith
-number_most BeyondRoom = omega arith
-number_most NoCommand = omega arith
-number_most NotOwnBallot = omega arith
-number_most WrongPhase = omega arith
-number_most DriveIsOff = omega arith
-number_most NotWritten = omega arith
-number_most NoMajority = omega arith
-number_most BallotTooLow = omega arith
-number_most NothingToTry = omega arith
-number_most BallotsSpent = omega arith
-number_most CutShort = omega arith
-number_most Malformed = omega arith
-number_most SlotNotFree = omega arith
-number_most NoSlotFree = omega arith
 
 -- the number tells the refusal
 pub refused_is : {A : Type 0} (x : Result A Refusal) (r : Refusal) → refusal_in x ≡ refusal_number r → x ≡ Err r

@@ -1,12 +1,11 @@
--- Laws of all_below: read at one of the numbers below n, shown at each, of two tests, and by a loop over them.
-use Prim.Native.Nat.{ℕ, zero, suc, ◌+◌, ◌<◌, ◌≤◌}
+-- Laws of all_below: read at one of the numbers below n, shown at each, of two tests, and by `all` over a range.
+use Prim.Native.Nat.{ℕ, zero, suc, ◌+◌, ◌<◌}
 use mathlib.Core.Path.{◌≡◌, refl, ◌∙◌, sym, ap}
-use mathlib.Core.Bool.{Bool, true, false, ◌&&◌, and-false, and-true, and_assoc, true≢false}
+use mathlib.Core.Bool.{Bool, true, false, ◌&&◌, and-false, and-true, and_assoc}
 use native.Mathlib.Omega.{arith}
-use native.Mathlib.Numerals.{add-one}
 use Rattle.std.specs.List.{list_all, range_with_len}
 use Rattle.quorum.specs.Sets.{all_below}
-use Rattle.lemmas.proofs.Tests.{by_test, and_left, and_right, and_intro}
+use Rattle.lemmas.proofs.Tests.{and_left, and_right, and_intro}
 
 pub all_none : (f : ℕ → Bool) → all_below 0 f ≡ true
 unfolding all_below
@@ -32,7 +31,7 @@ all_intro (suc n) f h =
     all_suc n f ∙ and_intro (all_below n f) (f n) (all_intro n f (λ i l. h i (omega arith))) (h n (omega arith))
 
 -- two tests of each number are one test after the other
-two_each : (a b x y : Bool) → (a && b && (x && y)) ≡ ((a && x) && (b && y))
+pub two_each : (a b x y : Bool) → (a && b && (x && y)) ≡ ((a && x) && (b && y))
 two_each true true x y = refl
 two_each true false x y = sym (and-false x)
 two_each false b x y = refl
@@ -41,26 +40,6 @@ pub all_both : (n : ℕ) (f g : ℕ → Bool) → all_below n (λ i. f i && g i)
 unfolding all_below
 all_both zero f g = refl
 all_both (suc n) f g = ap (λ (t : Bool). t && (f n && g n)) (all_both n f g) ∙ two_each (all_below n f) (all_below n g) (f n) (g n)
-
--- what holds after i turns of a loop that returns false where f first fails below n
-abbrev pub Passed : ℕ → (ℕ → Bool) → ℕ → Type 0
-Passed n f i = (i ≤ n) × (all_below i f ≡ true)
-
--- it begins, goes on, returns early, and ends
-module _ (n : ℕ) (f : ℕ → Bool) where
-  pub loop_begins : Passed n f 0
-  loop_begins = (omega arith, all_none f)
-
-  pub loop_goes_on : (i : ℕ) → Passed n f i → i < n → f i ≡ true → Passed n f (i + 1)
-  loop_goes_on i h l e =
-      (omega arith, ap (λ (k : ℕ). all_below k f) (add-one i) ∙ all_suc i f ∙ and_intro (all_below i f) (f i) h.1 e)
-
-  pub loop_returns : (i : ℕ) → i < n → f i ≡ false → false ≡ all_below n f
-  loop_returns i l e =
-      by_test (all_below n f) (λ h. absurd (true≢false (sym (all_at n f h i l) ∙ e))) (λ h. sym h)
-
-  pub loop_ends : (i : ℕ) → Passed n f i → n ≤ i → true ≡ all_below n f
-  loop_ends i h l = sym (ap (λ (k : ℕ). all_below k f) (omega arith) ∙ h.1)
 
 -- what `all` finds over a range of numbers
 list_more : (f : ℕ → Bool) (n a j : ℕ) → a + n ≡ j → list_all f (range_with_len a (suc n)) ≡ (list_all f (range_with_len a n) && f j)

@@ -6,7 +6,7 @@ use mathlib.Core.Bool.{true}
 use mathlib.Core.List.{List, ◌∷◌, Memᴰ}
 use Rattle.checks.specs.Checks.{outcome}
 use Rattle.checks.specs.Refusals.{Possible, refusal_in, refusals_of, numbers_of, rises, lowest}
-use Rattle.checks.proofs.LowestLaws.{first_applies, lowest_first, refusal_mapped, refusal_leaves}
+use Rattle.checks.proofs.LowestLaws.{first_applies, lowest_first, refusal_mapped, left_as_it_was}
 use Rattle.state.specs.declared.Step.{Step}
 use Rattle.state.specs.declared.Step.TheVariants.{Offer, Recall, Rejoin, Bid, Write, Read, Finish, Fail, DriveOff, DriveOn}
 use Rattle.state.specs.View.{view_of, view_slot}
@@ -69,8 +69,8 @@ answer_least cells st r m e =
     rw (answer_lowest cells st) (lowest_first 0 (refusals cells st) up r m e).least
 
 -- a refusal leaves every cell as it was
-pub step_leaves : (cells : List ℕ) (st : Step) → (refusal_in (answered cells st) ≡ 0 → ⊥) → stepped cells st ≡ cells
+pub refusal_leaves : (cells : List ℕ) (st : Step) → (refusal_in (answered cells st) ≡ 0 → ⊥) → stepped cells st ≡ cells
 unfolding answered stepped
-step_leaves cells st n =
-    refusal_leaves (settled (sizes_of cells) cells) cells (judged cells st)
+refusal_leaves cells st n =
+    left_as_it_was (settled (sizes_of cells) cells) cells (judged cells st)
     (λ e. n (refusal_mapped answer_of (judged cells st) ∙ e))
