@@ -36,11 +36,6 @@ two_each true true x y = refl
 two_each true false x y = sym (and-false x)
 two_each false b x y = refl
 
-pub all_both : (n : ℕ) (f g : ℕ → Bool) → all_below n (λ i. f i && g i) ≡ (all_below n f && all_below n g)
-unfolding all_below
-all_both zero f g = refl
-all_both (suc n) f g = ap (λ (t : Bool). t && (f n && g n)) (all_both n f g) ∙ two_each (all_below n f) (all_below n g) (f n) (g n)
-
 -- what `all` finds over a range of numbers
 list_more : (f : ℕ → Bool) (n a j : ℕ) → a + n ≡ j → list_all f (range_with_len a (suc n)) ≡ (list_all f (range_with_len a n) && f j)
 list_more f zero a j e = and-true (f a) ∙ ap f (omega arith)

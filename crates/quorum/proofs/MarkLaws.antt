@@ -7,7 +7,7 @@ use native.Mathlib.Decide.{dec_lt}
 use native.Mathlib.Nat.{add-div_right, add-mul-div_right, div-eq_of_lt, pow-suc, mod-lt, div-add-mod', lt_of_lt_of_le}
 use lib.Dec.{eqb, ltb}
 use lib.Pow.{pow_pos, pow-add, pow_mono, shr-shr}
-use lib.Bits.{bit_or, or_block, or_step, or_zero_r, or_lt}
+use lib.Bits.{bit_or, or_block, or_step, or_zero_r}
 use borrow.Author.Tests.{eq-eqb, ne_eqb, eqb-true, eqb-false, lt-ltb, le-ltb}
 use Rattle.quorum.specs.Marks.{stands, marked, unmarked}
 use Rattle.lemmas.proofs.Tests.{by_test}
@@ -195,7 +195,3 @@ or_marks m i h =
     let more : bit_or a 1 ≡ a + 1 = omega arith in
     let grown : (a + 1) * 2 ^ i + r ≡ m + 2 ^ i = omega arith in
     whole ∙ ap (λ (x : ℕ). x * 2 ^ i + r) more ∙ grown ∙ sym (marked_new m i h e))
-
--- a mark set below bit k keeps a cell below 2 ^ k
-pub marked_below : (m i k : ℕ) → m < 2 ^ k → i < k → i < 32 → marked m i < 2 ^ k
-marked_below m i k h l b = rw (or_marks m i b) at (or_lt k m (2 ^ i) h (lib.Pow.pow-lt l))
