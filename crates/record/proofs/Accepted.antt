@@ -1,18 +1,18 @@
 -- What holds where a step was read, and which numbers the answers carry.
 use Prim.Native.Nat.{ℕ, ◌<◌, ◌≤◌}
-use mathlib.Core.Bool.{false}
+use mathlib.Core.Bool.{false, not, ◌||◌}
 use mathlib.Core.List.{List}
 use mathlib.Core.Logic.{◌⊎◌, inl, inr}
 use mathlib.Core.Path.{◌≡◌, refl, ◌∙◌, sym, ap, ap₂}
 use native.Mathlib.Omega.{arith}
-use borrow.Author.Tests.{ltb-true, leb-true, not-true}
+use borrow.Author.Tests.{le-leb, lt-ltb, ltb-true, leb-true, not-true}
 use lib.ListN.{length, get_or}
 use Rattle.state.specs.declared.Step.{Step}
 use Rattle.std.specs.Prelude.{Ok, Err}
 use Rattle.checks.specs.declared.Refusal.{Refusal}
 use Rattle.checks.specs.declared.Refusal.TheVariants.{CutShort, Malformed}
 use Rattle.checks.specs.Refusals.{refusal_in, refusals_of, lowest}
-use Rattle.checks.proofs.CheckLaws.{must_cases}
+use Rattle.checks.proofs.CheckLaws.{passes, must_cases}
 use Rattle.checks.proofs.LowestLaws.{first_applies}
 use Rattle.record.specs.Fields.{mask_of, fields_of, step_of, with_values}
 use Rattle.record.specs.Map.{widths, record_length, unknown, malformed, asks_more, zero_among}
@@ -72,12 +72,32 @@ fields_read_lem bytes read =
     let keeps = values_keep widths vs m (mask_of kind) refl (values_mark widths m bytes 2 h.none_zero) h.asks in
     ap fields_of (sym h.step_is) ∙ fields_step (with_values kind vs) h.known keeps
 
-pub fields_found : (bytes : List ℕ) {step : Step} {f : Fields} {used length : ℕ} → reading_of bytes ≡ Ok (step, length)
-    → f ≡ with_values (get_or bytes 1 0) (values_at widths (get_or bytes 0 0) bytes 2) → used ≡ length
-    → Ok (f, used) ≡ found_of bytes
+-- where every check is passed, the step of the fields in the bytes is read, and those fields are found
+pub all_read : (bytes : List ℕ) → get_or bytes 0 0 < 32 → 2 ≤ length bytes
+    → unknown (get_or bytes 1 0) ≡ false → asks_more widths (get_or bytes 0 0) (mask_of (get_or bytes 1 0)) ≡ false
+    → record_length (get_or bytes 0 0) ≤ length bytes
+    → zero_among (get_or bytes 0 0) (values_at widths (get_or bytes 0 0) bytes 2) ≡ false
+    → reading_of bytes
+    ≡ Ok (step_of (with_values (get_or bytes 1 0) (values_at widths (get_or bytes 0 0) bytes 2)), record_length (get_or bytes 0 0))
+unfolding reading_of read_checks malformed
+all_read bytes small two known asks enough none =
+    passes _ CutShort _ (le-leb 1 (length bytes) (omega arith))
+    ∙ passes _ Malformed _ (lt-ltb (get_or bytes 0 0) 32 small)
+    ∙ passes _ CutShort _ (le-leb 2 (length bytes) two)
+    ∙ passes _ Malformed _ (ap not (ap₂ ◌||◌ known asks))
+    ∙ passes _ CutShort _ (le-leb (record_length (get_or bytes 0 0)) (length bytes) enough)
+    ∙ passes _ Malformed _ (ap not none)
+
+pub all_found : (bytes : List ℕ) → get_or bytes 0 0 < 32 → 2 ≤ length bytes
+    → unknown (get_or bytes 1 0) ≡ false → asks_more widths (get_or bytes 0 0) (mask_of (get_or bytes 1 0)) ≡ false
+    → record_length (get_or bytes 0 0) ≤ length bytes
+    → zero_among (get_or bytes 0 0) (values_at widths (get_or bytes 0 0) bytes 2) ≡ false
+    → found_of bytes
+    ≡ Ok (with_values (get_or bytes 1 0) (values_at widths (get_or bytes 0 0) bytes 2), record_length (get_or bytes 0 0))
 unfolding found_of
-fields_found bytes read is same =
-    ap₂ (λ (x : Fields) (y : ℕ). Ok (x, y)) (is ∙ sym (fields_read_lem bytes read)) same ∙ ap found_in (sym read)
+all_found bytes small two known asks enough none =
+    let read = all_read bytes small two known asks enough none in
+    ap found_in read ∙ ap (λ (x : Fields). Ok (x, record_length (get_or bytes 0 0))) (fields_read_lem bytes read)
 
 -- what is found is refused as reading is, and its step is the one that is read
 found_step : (r : Reading) → mapped (λ f. (step_of f.0, f.1)) (found_in r) ≡ r

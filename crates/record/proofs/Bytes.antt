@@ -10,7 +10,7 @@ use lib.ListN.{length, take, drop, set, replicate}
 use lib.Seq.{drop-drop, take_all, get_or-drop, sets, sets-eq}
 use Rattle.std.specs.Int.{w32, from_le_bytes, to_le_bytes}
 use Rattle.record.specs.Read.{low_number, Bytes}
-use Rattle.record.specs.Write.{Writing, low_first, written_by}
+use Rattle.record.specs.Write.{low_first}
 
 pub low_none : (s : List ℕ) → low_number (take 0 s) ≡ 0
 unfolding low_number
@@ -46,7 +46,7 @@ put_more l at (suc w) v more =
     ∙ ap (λ (i : ℕ). sets (sets (set l at (v % 256)) (suc at) (low_first w (v / 256))) i more) (omega arith)
 
 -- bytes that are copied into a buffer at once
-pub put_once : (l : List ℕ) (at k : ℕ) (ys : List ℕ) → length ys ≡ k → at + k ≤ length l → put_mid at k l ys ≡ sets l at ys
+put_once : (l : List ℕ) (at k : ℕ) (ys : List ℕ) → length ys ≡ k → at + k ≤ length l → put_mid at k l ys ≡ sets l at ys
 put_once l at k ys e h =
     let after : at + k ≡ at + length ys = omega arith in
     ap (λ (zs : List ℕ). take at l ++ (ys ++ zs)) (drop-drop k at l ∙ ap (λ (j : ℕ). drop j l) after)
@@ -81,10 +81,6 @@ take_bit w (suc (suc b)) v h = absurd (omega arith)
 pub stored_first : (bytes l : List ℕ) → length bytes ≤ length l → sets l 0 bytes ≡ bytes ++ drop (length bytes) l
 stored_first bytes l h =
     sets-eq bytes l 0 (omega arith) ∙ ap (λ (n : ℕ). bytes ++ drop n l) (zero-add (length bytes))
-
--- the answer decides what is left in the buffer
-pub says : (bytes buffer : List ℕ) {v w : Writing} → v ≡ w → (w ≡ v) × (written_by w bytes buffer ≡ written_by v bytes buffer)
-says bytes buffer e = (sym e, ap (λ (x : Writing). written_by x bytes buffer) (sym e))
 
 pub bytes_take : (n : ℕ) (s : List ℕ) → Bytes s → Bytes (take n s)
 bytes_take zero s h i = lit< tt

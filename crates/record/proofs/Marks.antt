@@ -7,12 +7,10 @@ use native.Mathlib.Nat.{mod-lt, two-pow-succ, one-mul, zero-mul, mul-le-mul_righ
 use native.Mathlib.Omega.{arith}
 use borrow.Author.Tests.{le-ltb, ltb-false, eqb-true, eqb-false, ne_eqb}
 use lib.Dec.{eqb, ltb, lit<}
-use lib.ListN.{length, get_or, take, drop, length-take, length-drop}
+use lib.ListN.{length, take, drop, length-take, length-drop}
 use lib.Seq.{length-take-le, take_at, drop_at, drop-drop, take-add}
 use Rattle.lemmas.proofs.Tests.{by_test, neither_left, neither_right}
-use Rattle.record.specs.Fields.{values_of, with_values}
-use Rattle.record.specs.declared.fields.Fields.{Fields}
-use Rattle.record.specs.Map.{widths, bit_of, marks_of, map_of, fields_length, asks_more, zero_among}
+use Rattle.record.specs.Map.{bit_of, marks_of, map_of, fields_length, asks_more, zero_among}
 use Rattle.record.specs.Read.{low_number, values_at, Bytes}
 use Rattle.record.specs.Write.{low_first, field_bytes}
 use Rattle.record.proofs.Bytes.{low_length, low_back, low_again, low_bound, low_none, bytes_take, bytes_drop}
@@ -91,18 +89,6 @@ asks_zero (w ∷ ws) (v ∷ vs) m e =
     (ap (λ (b : Bool). b || zero_among (m / 2) vs)
     (by_bit (λ (b : ℕ). ltb (bit_of 1 v) b ≡ (eqb b 1 && eqb v 0)) m (le-ltb (bit_of 1 v) 0 (omega arith))
     (by_test (eqb v 0) (λ z. rw z refl) (λ ne. rw ne refl))))
-
--- what the marks of the fields that were found say
-pub zero_found : (s : List ℕ) {f : Fields} {kind marks : ℕ} {b : Bool}
-    → f ≡ with_values kind (values_at widths (get_or s 0 0) s 2)
-    → marks ≡ marks_of (values_of f)
-    → b ≡ asks_more widths (get_or s 0 0) marks
-    → zero_among (get_or s 0 0) (values_at widths (get_or s 0 0) s 2) ≡ b
-unfolding values_at
-zero_found s {kind = kind} e is found =
-    let vs = values_at widths (get_or s 0 0) s 2 in
-    let marked = is ∙ ap (λ (x : Fields). marks_of (values_of x)) e in
-    sym (asks_zero widths vs (get_or s 0 0) refl) ∙ ap (asks_more widths (get_or s 0 0)) (sym marked) ∙ sym found
 
 no_bit : (v : ℕ) → bit_of 0 v ≡ 0
 no_bit v = by_zero v (bit_is_zero 0 v) (bit_is_has 0 v)

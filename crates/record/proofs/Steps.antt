@@ -10,7 +10,7 @@ use Rattle.lemmas.proofs.Tests.{by_test, clash, neither_left, neither_right}
 use Rattle.state.specs.declared.Step.TheVariants.{Offer, Recall, Rejoin, Bid, Write, Read, Finish, Fail, DriveOff, DriveOn}
 use Rattle.state.specs.declared.Step.{Step}
 use Rattle.record.specs.Fields.{mask_of, fields_of, step_of, values_of, with_values, StepFits}
-use Rattle.record.specs.Kinds.{number_of}
+use Rattle.record.specs.Kinds.{kind_number}
 use Rattle.record.specs.declared.kinds.Kind.{Kind}
 use Rattle.record.specs.declared.kinds.Kind.TheVariants as kind
 use Rattle.record.specs.Map.{widths, map_of, unknown, fields_length, record_length}
@@ -51,7 +51,7 @@ kind_known (Fail p) = refl
 kind_known (DriveOff d) = refl
 kind_known (DriveOn d) = refl
 
-pub number_known : (kind : Kind) → unknown (number_of kind) ≡ false
+pub number_known : (kind : Kind) → unknown (kind_number kind) ≡ false
 number_known kind.Offer = refl
 number_known kind.Recall = refl
 number_known kind.Rejoin = refl
@@ -112,7 +112,7 @@ kind_length =
     (lit≤ tt)
 
 -- the step of a known kind with any fields has the fields that its kind has, and 0 for each other
-pub fields_kept : (f : Fields) → unknown f.kind ≡ false
+fields_kept : (f : Fields) → unknown f.kind ≡ false
     → fields_of (step_of f) ≡ with_values f.kind (kept (mask_of f.kind) (values_of f))
 unfolding mask_of step_of
 fields_kept f =

@@ -1,23 +1,22 @@
 -- What is written reads back, what is read is written again, and no two steps share a record (SPEC, "Step records").
 use Prim.Native.Nat.{ℕ, suc, ◌+◌, ◌<◌, ◌≤◌}
-use mathlib.Core.Bool.{Bool, false, not, ◌||◌}
+use mathlib.Core.Bool.{false}
 use mathlib.Core.List.{List, [], ◌∷◌, ◌++◌, append-nil}
 use mathlib.Core.Path.{◌≡◌, refl, ◌∙◌, sym, ap, ap₂, subst}
 use native.Mathlib.Omega.{arith}
-use borrow.Author.Tests.{le-leb, lt-ltb}
 use lib.ListN.{length, get_or, take, drop, length-append}
 use Rattle.state.specs.declared.Step.{Step}
 use Rattle.std.specs.Prelude.{Ok, Err}
-use Rattle.checks.specs.declared.Refusal.TheVariants.{WrongLength, CutShort, Malformed}
+use Rattle.checks.specs.declared.Refusal.TheVariants.{WrongLength}
 use Rattle.checks.specs.Refusals.{refusal_in}
-use Rattle.checks.proofs.CheckLaws.{passes, must_cases}
+use Rattle.checks.proofs.CheckLaws.{must_cases}
 use Rattle.record.specs.Answers.{Reads, write_length}
 use Rattle.record.specs.Fields.{mask_of, fields_of, step_of, values_of, with_values, StepFits}
-use Rattle.record.specs.Map.{widths, map_of, record_length, fields_length, unknown, malformed, asks_more, zero_among}
-use Rattle.record.specs.Read.{Reading, read_checks, reading_of, values_at, Bytes}
+use Rattle.record.specs.Map.{widths, map_of, record_length, fields_length, unknown, zero_among}
+use Rattle.record.specs.Read.{Reading, reading_of, values_at, Bytes}
 use Rattle.record.specs.Write.{Writing, record_of, record_of_fields, bytes_of, field_bytes, write_checks, storing, writing_of, written_by, stored, written_of}
 use Rattle.record.specs.declared.fields.Fields.{Fields}
-use Rattle.record.proofs.Accepted.{accepted, fields_read_lem, Used, used_bounds}
+use Rattle.record.proofs.Accepted.{accepted, all_read, fields_read_lem, Used, used_bounds}
 use Rattle.record.proofs.MapLaws.{map_small, fields-length, bytes-length}
 use Rattle.record.proofs.Marks.{Keeps, Fit, map_marks, asks_no_more, none_zero, values_back, values_mark, values_fit_lem, map_again, bytes_again, asked-length}
 use Rattle.record.proofs.Steps.{step_fields, kind_known, step_keeps, step_fit, kind_length}
@@ -26,7 +25,7 @@ use Rattle.record.proofs.Steps.{step_fields, kind_known, step_keeps, step_fit, k
 read_fields : (f : Fields) (rest : List ℕ)
     → Fit widths (values_of f) → Keeps (mask_of f.kind) (values_of f) → unknown f.kind ≡ false
     → reading_of (record_of_fields f ++ rest) ≡ Ok (step_of f, length (record_of_fields f))
-unfolding reading_of read_checks record_of_fields bytes_of malformed record_length
+unfolding record_of_fields bytes_of record_length
 read_fields f rest fit keeps known =
     let vs = values_of f in
     let mask = mask_of f.kind in
@@ -37,14 +36,8 @@ read_fields f rest fit keeps known =
     let long = length-append (field_bytes widths m vs) rest in
     let asked = fields-length widths vs m refl in
     let enough : record_length m ≤ length s = omega arith in
-    let fair : malformed m f.kind ≡ false =
-    ap (λ (b : Bool). b || asks_more widths m mask) known ∙ asks_no_more widths vs mask refl in
-    passes _ CutShort _ (le-leb 1 (length s) (omega arith))
-    ∙ passes _ Malformed _ (lt-ltb m 32 (map_small mask vs))
-    ∙ passes _ CutShort _ (le-leb 2 (length s) (omega arith))
-    ∙ passes _ Malformed _ (ap not fair)
-    ∙ passes _ CutShort _ (le-leb (record_length m) (length s) enough)
-    ∙ passes _ Malformed _ (ap not (ap (zero_among m) values ∙ none_zero m vs marks))
+    let none = ap (zero_among m) values ∙ none_zero m vs marks in
+    all_read s (map_small mask vs) (omega arith) known (asks_no_more widths vs mask refl) enough none
     ∙ ap₂ (λ (x : Step) (y : ℕ). Ok (x, y)) (ap (λ (l : List ℕ). step_of (with_values f.kind l)) values) (omega arith)
 
 back : (step : Step) (rest : List ℕ) → StepFits step

@@ -6,18 +6,18 @@ use Rattle.record.specs.Map.{unknown}
 use Rattle.record.specs.declared.kinds.Kind.{Kind}
 use Rattle.record.specs.declared.kinds.Kind.TheVariants.{Offer, Recall, Rejoin, Bid, Write, Read, Finish, Fail, DriveOff, DriveOn}
 
-abbrev pub number_of : Kind → ℕ
-number_of Offer = 1
-number_of Recall = 2
-number_of Rejoin = 3
-number_of Bid = 4
-number_of Write = 5
-number_of Read = 6
-number_of Finish = 7
-number_of Fail = 8
-number_of DriveOff = 9
-number_of DriveOn = 10
+abbrev pub kind_number : Kind → ℕ
+kind_number Offer = 1
+kind_number Recall = 2
+kind_number Rejoin = 3
+kind_number Bid = 4
+kind_number Write = 5
+kind_number Read = 6
+kind_number Finish = 7
+kind_number Fail = 8
+kind_number DriveOff = 9
+kind_number DriveOn = 10
 
 -- the result is the kind that the number names, or a refusal where it names none
-abbrev pub Names : ℕ → Result Kind Refusal → Type 0
-Names n r = MatchResult r (λ kind. number_of kind ≡ n) (λ refusal. (refusal ≡ Malformed) × (unknown n ≡ true))
+abbrev pub IsKind : ℕ → Result Kind Refusal → Type 0
+IsKind n r = MatchResult r (λ kind. kind_number kind ≡ n) (λ refusal. (refusal ≡ Malformed) × (unknown n ≡ true))

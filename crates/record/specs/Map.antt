@@ -1,6 +1,8 @@
 -- The map byte, and what it says of the fields that follow (SPEC, "Step records"). Each definition goes through the
 -- fields in the order of their bits: the low bit of a map is the first field's, its half is the map of the others.
-use Rattle.std.specs.Prelude.{ℕ, ◌+◌, ◌*◌, ◌/◌, ◌%◌, Bool, false, ◌&&◌, ◌||◌, cond, List, [], ◌∷◌, eqb, ltb}
+use Rattle.std.specs.Prelude.{ℕ, ◌≡◌, ◌+◌, ◌*◌, ◌/◌, ◌%◌, ◌<◌, ◌≤◌, Bool, false, ◌&&◌, ◌||◌, cond, List, [], ◌∷◌, eqb, ltb, Result, MatchResult}
+use Rattle.checks.specs.declared.Refusal.{Refusal}
+use Rattle.checks.specs.declared.Refusal.TheVariants.{Malformed}
 use Rattle.record.specs.Fields.{mask_of}
 
 -- how many bytes each field takes
@@ -38,6 +40,10 @@ asks_more (w ∷ ws) map mask = ltb (mask % 2) (map % 2) || asks_more ws (map / 
 -- the kind is none of the ten
 abbrev pub unknown : ℕ → Bool
 unknown kind = eqb kind 0 || ltb 10 kind
+
+-- the result is the map that a byte is, or a refusal where it is none
+abbrev pub IsMap : ℕ → Result ℕ Refusal → Type 0
+IsMap byte r = MatchResult r (λ map. (map ≡ byte) × (map < 32)) (λ refusal. (refusal ≡ Malformed) × (32 ≤ byte))
 
 -- no record of this kind has this map
 unfoldable pub malformed : ℕ → ℕ → Bool

@@ -32,7 +32,7 @@ impl Fields {
     }
 }
 
-// The kind and the fields of a step.
+// The kind and the fields of a step, by its kind as in `room::effect::rule`.
 impl From<Step> for Fields {
     ghost from_gives = { λ step f. f ≡ fields_of step };
 
@@ -57,8 +57,10 @@ impl From<Step> for Fields {
 // The step of a kind from 1 to 10 with these fields; a field that the kind lacks is not looked at. It cannot fail:
 // another number counts as 10.
 #[tactic(auto, using(crate::proofs::Steps::step_unknown))]
-pub fn step_of(f: Fields) -> Step
-    ensures { result ≡ step_of f }
-{
-    Kind::try_from(f.kind).unwrap_or(Kind::DriveOn).step(f)
+impl From<Fields> for Step {
+    ghost from_gives = { λ f step. step ≡ step_of f };
+
+    fn from(f: Fields) -> Self {
+        Kind::try_from(f.kind).unwrap_or(Kind::DriveOn).step(f)
+    }
 }

@@ -1,10 +1,10 @@
 // The ten kinds of step: the number of each, the fields that it has, and its step.
 ghost use Rattle.std.specs.Prelude.{◌≡◌};
 ghost use Rattle.record.specs.Fields.{fields, mask_of, step_of, values_of, with_values};
-ghost use Rattle.record.specs.Kinds.{number_of, Names};
+ghost use Rattle.record.specs.Kinds.{kind_number, IsKind};
 
 use crate::fields::Fields;
-use crate::map;
+use crate::map::Map;
 use checks::Refusal;
 use state::Step;
 
@@ -27,7 +27,7 @@ pub(crate) enum Kind {
 impl TryFrom<u8> for Kind {
     type Error = Refusal;
 
-    ghost try_from_gives = { Names };
+    ghost try_from_gives = { IsKind };
 
     fn try_from(number: u8) -> Result<Self, Refusal> {
         match number {
@@ -49,22 +49,22 @@ impl TryFrom<u8> for Kind {
 impl Kind {
     // The map of all the fields that the kind has.
     #[tactic(auto, unfolding(crate::specs::Fields::mask_of))]
-    pub(crate) fn mask(self) -> usize
-        ensures { result ≡ mask_of (number_of self) }
+    pub(crate) fn mask(self) -> Map
+        ensures { result ≡ mask_of (kind_number self) }
     {
         match self {
-            Kind::Offer | Kind::Rejoin | Kind::Bid => map::WITH_NUMBER,
-            Kind::Recall | Kind::Write => map::WITH_DRIVE,
-            Kind::Read => map::WITH_OTHER,
-            Kind::Finish => map::AT_SLOT,
-            Kind::Fail => map::SERVER,
-            Kind::DriveOff | Kind::DriveOn => map::DRIVE,
+            Kind::Offer | Kind::Rejoin | Kind::Bid => Map::WITH_NUMBER,
+            Kind::Recall | Kind::Write => Map::WITH_DRIVE,
+            Kind::Read => Map::WITH_OTHER,
+            Kind::Finish => Map::AT_SLOT,
+            Kind::Fail => Map::SERVER,
+            Kind::DriveOff | Kind::DriveOn => Map::DRIVE,
         }
     }
 
-    // The kind's number with these fields.
+    // The kind's number with these fields. `as` gives an enum's number, for which std has no From.
     pub(crate) fn fields(self, server: u8, slot: u8, drive: u8, other: u8, number: u32) -> Fields
-        ensures { result ≡ fields (number_of self) server slot drive other number }
+        ensures { result ≡ fields (kind_number self) server slot drive other number }
     {
         Fields::new(self as u8, server, slot, drive, other, number)
     }
@@ -72,7 +72,7 @@ impl Kind {
     // The step of the kind with these fields; a field that the kind lacks is not looked at.
     #[tactic(auto, unfolding(crate::specs::Fields::step_of))]
     pub(crate) fn step(self, f: Fields) -> Step
-        ensures { result ≡ step_of (with_values (number_of self) (values_of f)) }
+        ensures { result ≡ step_of (with_values (kind_number self) (values_of f)) }
     {
         match self {
             Kind::Offer => Step::Offer(f.server, f.slot, f.number),

@@ -13,8 +13,9 @@ ghost use Rattle.record.specs.Read.{reading_of, found_of};
 ghost use Rattle.record.specs.Write.{writing_of, written_of, writing_from, written_from};
 
 use checks::Refusal;
-pub use fields::{Fields, step_of};
+pub use fields::Fields;
 use kinds::Kind;
+use map::Map;
 use state::Step;
 
 // Reads the record at the start of bytes: the step with the length used. What stands beyond it is not looked at.
@@ -23,43 +24,34 @@ pub fn read_record(bytes: &[u8]) -> Result<(Step, usize), Refusal>
     ensures { result ≡ reading_of bytes.now }
 {
     let (found, used) = read_fields(bytes)?;
-    Ok((step_of(found), used))
+    Ok((Step::from(found), used))
 }
 
-// Reads the same record, and answers the fields of its step with the length used. Inlined, so that they stay out of
+// Reads the same record, and answers the fields of its step with the length used. Inlined, so that the fields stay out of
 // memory.
-#[tactic(auto, unfolding(checks::specs::Checks::must, crate::specs::Map::malformed, crate::specs::Read::found_of, crate::specs::Read::reading_of, crate::specs::Read::read_checks))]
+#[tactic(auto, using(crate::proofs::Accepted::all_found), unfolding(checks::specs::Checks::must, crate::specs::Map::malformed, crate::specs::Read::found_of, crate::specs::Read::reading_of, crate::specs::Read::read_checks))]
 #[inline(always)]
 pub fn read_fields(bytes: &[u8]) -> Result<(Fields, usize), Refusal>
     ensures { result ≡ found_of bytes.now }
 {
-    if bytes.len() < 1 {
-        return Err(Refusal::CutShort);
-    }
-    let map = bytes[0] as usize;
-    if 32 <= map {
+    let map = Map::try_from(*bytes.first().ok_or(Refusal::CutShort)?)?;
+    let kind = Kind::try_from(*bytes.get(1).ok_or(Refusal::CutShort)?)?;
+    if map.asks_more(kind.mask()) {
         return Err(Refusal::Malformed);
     }
-    if bytes.len() < 2 {
-        return Err(Refusal::CutShort);
-    }
-    let kind = Kind::try_from(bytes[1])?;
-    if map::asks_more(map, kind.mask()) {
-        return Err(Refusal::Malformed);
-    }
-    let length = map::record_length(map);
+    let length = map.record_length();
     if bytes.len() < length {
         return Err(Refusal::CutShort);
     }
     let f = decode::fields_at(bytes, map, kind);
-    if map::asks_more(map, map::marks_of(f)) {
+    if map.zero_among(f) {
         return Err(Refusal::Malformed);
     }
     Ok((f, length))
 }
 
 // Writes the step's record at the start of buffer, and answers the length used; what stands beyond it is left alone.
-#[tactic(auto, using(crate::proofs::Writes::step_from))]
+#[tactic(auto, using(crate::proofs::Writes::step_written, crate::proofs::Writes::step_left))]
 pub fn write_record(step: Step, buffer: &mut [u8]) -> Result<usize, Refusal>
     ensures answer { result ≡ writing_of step buffer.old }
     ensures bytes { buffer.new ≡ written_of step buffer.old }
@@ -69,14 +61,14 @@ pub fn write_record(step: Step, buffer: &mut [u8]) -> Result<usize, Refusal>
 
 // Writes the record of the step of these fields. A field that the kind lacks is not looked at; a kind that is none of
 // the ten is refused.
-#[tactic(auto, using(crate::proofs::Writes::unknown_refused))]
+#[tactic(auto, using(crate::proofs::Writes::write_rules))]
 pub fn write_fields(f: Fields, buffer: &mut [u8]) -> Result<usize, Refusal>
     ensures answer { result ≡ writing_from f buffer.old }
     ensures bytes { buffer.new ≡ written_from f buffer.old }
 {
     let kind = Kind::try_from(f.kind)?;
-    let map = map::map_of(kind.mask(), f);
-    let length = map::record_length(map);
+    let map = kind.mask().map_of(f);
+    let length = map.record_length();
     if buffer.len() < length {
         return Err(Refusal::WrongLength);
     }
