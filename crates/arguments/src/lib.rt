@@ -2,12 +2,12 @@
 #![tactic(auto)]
 
 ghost use Rattle.std.specs.Prelude.{◌≡◌};
-ghost use Rattle.synod.specs.Arguments.{in_room, drive_fits, places_fit, command_fits};
+ghost use Rattle.synod.specs.Arguments.{places_fit, command_fits};
 
-use command::is_command;
+use command::Limits;
 use state::{Sizes, Step};
 
-// Every place that the step names is in the room.
+// Whether every place that the step names is in the room, by the kind as in `room::effect::rule`.
 #[tactic(auto, unfolding(synod::specs::Arguments::places_fit))]
 pub fn places_fit(z: Sizes, step: Step) -> bool
     ensures { result ≡ places_fit z step }
@@ -16,40 +16,28 @@ pub fn places_fit(z: Sizes, step: Step) -> bool
         Step::Offer(server, slot, _)
         | Step::Rejoin(server, slot, _)
         | Step::Bid(server, slot, _)
-        | Step::Finish(server, slot) => in_room(z, server, slot),
+        | Step::Finish(server, slot) => z.has_slot(server.into(), slot.into()),
         Step::Recall(server, slot, drive) | Step::Write(server, slot, drive) => {
-            in_room(z, server, slot) && drive_fits(z, drive)
+            z.has_slot(server.into(), slot.into()) && z.has_drive(drive.into())
         }
         Step::Read(server, slot, drive, other) => {
-            in_room(z, server, slot)
-                && drive_fits(z, drive)
-                && u32::from(other) < z.servers
+            z.has_slot(server.into(), slot.into())
+                && z.has_drive(drive.into())
+                && z.has_server(other.into())
                 && other != server
         }
-        Step::Fail(server) => u32::from(server) < z.servers,
-        Step::DriveOff(drive) | Step::DriveOn(drive) => drive_fits(z, drive),
+        Step::Fail(server) => z.has_server(server.into()),
+        Step::DriveOff(drive) | Step::DriveOn(drive) => z.has_drive(drive.into()),
     }
 }
 
-fn in_room(z: Sizes, server: u8, slot: u8) -> bool
-    ensures { result ≡ in_room z server slot }
-{
-    u32::from(server) < z.servers && u32::from(slot) < z.slots
-}
-
-fn drive_fits(z: Sizes, drive: u8) -> bool
-    ensures { result ≡ drive_fits z drive }
-{
-    u32::from(drive) < z.drives
-}
-
-// The command that the step offers, if it offers one, is a command by the limits given.
+// Whether the command that the step offers, if it offers one, is a command by the limits given.
 #[tactic(auto, unfolding(synod::specs::Arguments::command_fits))]
-pub fn command_fits(limits: &[u32; 8], step: Step) -> bool
-    ensures { result ≡ command_fits limits.now step }
+pub fn command_fits(limits: &Limits, step: Step) -> bool
+    ensures { result ≡ command_fits limits.now.0 step }
 {
     match step {
-        Step::Offer(_, _, command) => is_command(limits, command),
+        Step::Offer(_, _, command) => limits.is_command(command),
         _ => true,
     }
 }

@@ -6,12 +6,12 @@ ghost use Rattle.std.specs.Prelude.{◌≡◌};
 ghost use Rattle.ballot.specs.Ballot.{next_own};
 ghost use Rattle.ballot_c.specs.Number.{ballot_or_zero};
 
-use ballot::next_own;
+use ballot::Owner;
 
 // The server's least ballot above the one found, 0 where none is left.
 #[unsafe(no_mangle)]
 pub extern "C" fn ballot_next(servers: u32, server: u32, found: u32) -> u32
     ensures { result ≡ ballot_or_zero (next_own servers server found) }
 {
-    next_own(servers, server, found).unwrap_or(0)
+    Owner { servers, server }.next_own(found).unwrap_or(0)
 }

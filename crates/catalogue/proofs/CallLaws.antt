@@ -6,7 +6,7 @@ use mathlib.Core.Bool.{true, false}
 use mathlib.Core.List.{List}
 use lib.ListN.{length}
 use lib.Dec.{eqb, ltb}
-use borrow.Author.Tests.{eq-eqb, ne_eqb, lt-ltb, le-ltb}
+use borrow.Author.Tests.{eq-eqb, ne_eqb, lt-ltb, le-ltb, ltb-true}
 use Rattle.std.specs.Prelude.{Result, Ok, Err}
 use Rattle.checks.specs.declared.Refusal.{Refusal}
 use Rattle.checks.specs.declared.Refusal.TheVariants.{WrongLength, OutOfRange, BeyondRoom}
@@ -17,20 +17,20 @@ use Rattle.layout.specs.Cells.{sizes_of, limits_of}
 use Rattle.range.specs.Range.{in_range}
 use Rattle.range.proofs.Laws.{range_says}
 use Rattle.catalogue.specs.Fold.{pieces}
-use Rattle.catalogue.specs.Call.{entries_of, counted, catalogue_checks, catalogue_of, catalogue_cells, Listable}
+use Rattle.catalogue.specs.Call.{entries_of, counted, catalogue_checks, catalogue_of, catalogue_cells, Taken}
 use Rattle.catalogue.specs.declared.Counts.{Counts}
 use Rattle.catalogue.proofs.OutputLaws.{output_piece}
 
--- a room in range has at most four servers, and outputs that can be listed
-module _ (room : List ℕ) (range : in_range room ≡ true) where
-  pub room_servers : (sizes_of room).servers ≤ 4
-  room_servers = (range_says room range).row.fit.servers
-
-  pub listable : (z : Sizes) (p : ℕ) → z ≡ sizes_of room → p < z.servers → Listable z room p
-  listable z p e =
-      let i = range_says room range in
-      subst⁻¹ (λ (y : Sizes). p < y.servers → Listable y room p) e
-      (λ h. record { server = h; within = λ s l. output_piece (limits_of room) (sizes_of room) room i p h s l })
+-- a room in range has outputs that can be listed; its cells and its sizes are those of a room as a type
+pub listable
+    : (room cells : List ℕ) (z : Sizes) (p : ℕ) → in_range room ≡ true → cells ≡ room → z ≡ sizes_of cells
+    → ltb p z.servers ≡ true → Taken z cells p
+listable room cells z p range same e =
+    rw same
+    (subst⁻¹ (λ (y : Sizes). ltb p y.servers ≡ true → Taken y room p) (e ∙ ap sizes_of same)
+    (λ b.
+    let h = ltb-true p (sizes_of room).servers b in
+    record { server = h; within = λ s l. output_piece (limits_of room) (sizes_of room) room (range_says room range) p h s l }))
 
 -- the answers in the order of the checks, each with the cells that it leaves
 module _ (room : List ℕ) (server : ℕ) (out : List ℕ) where

@@ -157,10 +157,3 @@ module _ (limits : List ℕ) (z : Sizes) (cells : List ℕ) (range : InRange lim
 
   pub output_piece : (s : ℕ) → s < z.slots → piece_of (output_at z cells p s) < pieces
   output_piece s l = value_piece limits (output_at z cells p s) (output_fits s l)
-
-  pub taken_commands
-      : (i : ℕ) → i < length (outputs_of z cells p) → is_command limits (get_or (outputs_of z cells p) i 0) ≡ true
-  taken_commands i l =
-      let o = outputs_first z cells p in
-      let b = o.short in
-      ap (is_command limits) (o.at i l) ∙ value_command limits (output_at z cells p i) (output_fits i (omega arith)) (o.some i l)

@@ -38,6 +38,6 @@ catalogue_cells room server out =
     left_by (λ c. (entries_of (sizes_of room) room server).cells) out (catalogue_of room server out)
 
 -- what the loop over the slots needs beside a room
-pub record Listable (z : Sizes) (room : List ℕ) (p : ℕ) : Type 0 where
+pub record Taken (z : Sizes) (room : List ℕ) (p : ℕ) : Type 0 where
   pub server : p < z.servers
   pub within : (s : ℕ) → s < z.slots → piece_of (output_at z room p s) < pieces

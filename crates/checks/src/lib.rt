@@ -44,7 +44,7 @@ pub enum Refusal {
 }
 
 impl Refusal {
-    // The number of the refusal.
+    // The number of the refusal. `as` gives an enum's number, for which std has no From.
     pub fn number(self) -> u32
         ensures { result ≡ refusal_number self }
     {

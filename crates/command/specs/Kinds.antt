@@ -5,14 +5,14 @@ use Rattle.command.specs.declared.kinds.Kind.{Kind}
 use Rattle.command.specs.declared.kinds.Kind.TheVariants.{Enter, Move, Strike}
 use Rattle.command.specs.declared.kinds.UnknownKind.{UnknownKind}
 
-abbrev pub number_of : Kind → ℕ
-number_of Enter = enter
-number_of Move = move
-number_of Strike = strike
+abbrev pub kind_number : Kind → ℕ
+kind_number Enter = enter
+kind_number Move = move
+kind_number Strike = strike
 
 -- the result is the kind that the number names, or the number where it names none
-abbrev pub Names : ℕ → Result Kind UnknownKind → Type 0
-Names n r =
+abbrev pub IsKind : ℕ → Result Kind UnknownKind → Type 0
+IsKind n r =
     MatchResult r
-    (λ kind. number_of kind ≡ n)
+    (λ kind. kind_number kind ≡ n)
     (λ unknown. (unknown.0 ≡ n) × (n ≢ enter) × (n ≢ move) × (n ≢ strike))

@@ -1,5 +1,4 @@
-ghost use Rattle.std.specs.Prelude.{◌≡◌};
-ghost use Rattle.command.specs.Kinds.{Names};
+ghost use Rattle.command.specs.Kinds.{IsKind};
 
 // What a command does with its piece.
 #[derive(Clone, Copy, Debug, PartialEq, Eq)]
@@ -17,7 +16,7 @@ pub struct UnknownKind(pub u32);
 impl TryFrom<u32> for Kind {
     type Error = UnknownKind;
 
-    ghost try_from_gives = { Names };
+    ghost try_from_gives = { IsKind };
 
     fn try_from(number: u32) -> Result<Self, UnknownKind> {
         match number {

@@ -10,16 +10,14 @@ use kinds::Kind;
 // The kinds of command, as an enum.
 pub mod kinds;
 
-// The largest hoard of cabinets 0 to 7.
-pub const LIMITS: [u32; 8] = [255, 255, 200, 200, 120, 120, 60, 60];
-
 // There are the pieces 0 to 63.
-const PIECES: u32 = 64;
+pub const PIECES: u32 = 64;
 
 // The least strike. The table ends below it.
 const STRIKES: u32 = 196608;
 
-// The number of the kind, which `Kind::try_from` takes: 1 enter, 2 move, 3 strike.
+// The number of the kind: 1 enter, 2 move, 3 strike. A number, since every v has one and not each names a kind, which is what
+// `Kind::try_from` says.
 pub fn kind(v: u32) -> u32
     ensures { result ≡ kind_of v }
 {
@@ -38,65 +36,79 @@ pub fn hoard(v: u32) -> u32
     v % 256
 }
 
-// The cabinets' limits, to lend to is_command.
-pub fn limits() -> [u32; 8]
-    ensures { result ≡ cabinet_limits }
-{
-    LIMITS
-}
+// The largest hoard of each cabinet.
+#[derive(Clone, Copy)]
+pub struct Limits(pub [u32; 8]);
 
-// Whether v is a command where each cabinet has the limit given.
-#[tactic(auto, unfolding(crate::specs::Command::is_command, crate::specs::Command::hoard_fits, crate::specs::Command::limit_of))]
-pub fn is_command(limits: &[u32; 8], v: u32) -> bool
-    ensures { result ≡ is_command limits.now v }
-{
-    let piece = piece(v);
-    let hoard = hoard(v);
-    if PIECES <= piece {
-        return false;
+impl Limits {
+    // The limits of cabinets 0 to 7.
+    pub fn of_cabinets() -> Limits
+        ensures { result.0 ≡ cabinet_limits }
+    {
+        Limits([255, 255, 200, 200, 120, 120, 60, 60])
     }
-    match Kind::try_from(kind(v)) {
-        Ok(Kind::Enter | Kind::Move) => (1..=limits[piece as usize / 8]).contains(&hoard),
-        Ok(Kind::Strike) => hoard == 0,
-        Err(_) => false,
-    }
-}
 
-// The table by which all cells of a room are judged: the largest hoard of enter and of move by kind and cabinet, that is
-// at v / 2048, and 0 where there is no such command. Made once for a call.
-#[tactic(auto, using(crate::proofs::TopLaws::tops_more, crate::proofs::TopLaws::tops_all), unfolding(crate::proofs::TopLaws::tops_after))]
-pub fn tops_of(limits: &[u32; 8]) -> [u8; 96]
-    ensures { result ≡ tops_of limits.now }
-{
-    let mut tops = [0; 96];
-    for (i, limit) in limits.iter().enumerate() {
-        let top = byte(*limit);
-        tops[32 + i] = top;
-        tops[64 + i] = top;
+    // Whether v is a command where each cabinet has its limit.
+    #[tactic(auto, unfolding(crate::specs::Command::is_command, crate::specs::Command::hoard_fits, crate::specs::Command::limit_of))]
+    pub fn is_command(&self, v: u32) -> bool
+        ensures { result ≡ is_command self.now.0 v }
+    {
+        // `as` keeps the number, as in `Tops::is_value`.
+        let piece = piece(v);
+        let hoard = hoard(v);
+        if PIECES <= piece {
+            return false;
+        }
+        match Kind::try_from(kind(v)) {
+            Ok(Kind::Enter | Kind::Move) => (1..=self.0[piece as usize / 8]).contains(&hoard),
+            Ok(Kind::Strike) => hoard == 0,
+            Err(_) => false,
+        }
     }
-    tops
+
+    // The table by these limits. Made once for a call.
+    #[tactic(auto, using(crate::proofs::TopLaws::tops_more, crate::proofs::TopLaws::tops_all), unfolding(crate::proofs::TopLaws::tops_after))]
+    pub fn tops(&self) -> Tops
+        ensures { result.0 ≡ tops_of self.now.0 }
+    {
+        let mut tops = [0; 96];
+        for (i, limit) in self.0.iter().enumerate() {
+            let top = byte(*limit);
+            tops[32 + i] = top;
+            tops[64 + i] = top;
+        }
+        Tops(tops)
+    }
 }
 
 // A limit as far as a hoard can reach it.
 fn byte(limit: u32) -> u8
     ensures { result ≡ byte_of limit }
 {
-    limit.min(255) as u8
+    u8::try_from(limit).unwrap_or(u8::MAX)
 }
 
-// Whether v is 0 or a command, by one look into the table. v / 16384 is four times the kind, and more where the piece is too
-// large, so 12 is a strike of a piece.
-#[tactic(auto, unfolding(crate::specs::Tops::value_by))]
-pub fn is_value(tops: &[u8; 96], v: u32) -> bool
-    ensures { result ≡ value_by tops.now v }
-{
-    if v == 0 {
-        return true;
+// The table by which all cells of a room are judged: the largest hoard of enter and of move by kind and cabinet, that is
+// at v / 2048, and 0 where there is no such command.
+#[derive(Clone, Copy)]
+pub struct Tops(pub [u8; 96]);
+
+impl Tops {
+    // Whether v is 0 or a command, by one look into the table. v / 16384 is four times the kind, and more where the piece is
+    // too large, so 12 is a strike of a piece. By numbers, which index the table: a kind would be looked up for each cell.
+    #[tactic(auto, unfolding(crate::specs::Tops::value_by))]
+    pub fn is_value(&self, v: u32) -> bool
+        ensures { result ≡ value_by self.now.0 v }
+    {
+        if v == 0 {
+            return true;
+        }
+        // `as` keeps these numbers: the first is a byte, and std has no From of a u32 for a usize.
+        let hoard = hoard(v) as u8;
+        if STRIKES <= v {
+            return (hoard == 0) & (v / 16384 == 12);
+        }
+        let top = self.0[(v / 2048) as usize];
+        (1 <= hoard) & (hoard <= top)
     }
-    let hoard = (v % 256) as u8;
-    if STRIKES <= v {
-        return (hoard == 0) & (v / 16384 == 12);
-    }
-    let top = tops[(v / 2048) as usize];
-    (1 <= hoard) & (hoard <= top)
 }

@@ -2,15 +2,15 @@
 -- is; and of the refusals that apply it gives the lowest.
 use Prim.Native.Nat.{ℕ, zero, suc, ◌+◌, ◌<◌, ◌≤◌}
 use mathlib.Core.Path.{◌≡◌, refl, sym, ap, subst}
-use mathlib.Core.Bool.{Bool, true, false}
+use mathlib.Core.Bool.{Bool, true, false, cond}
 use mathlib.Core.List.{List, [], ◌∷◌, Memᴰ}
 use native.Mathlib.Omega.{arith}
 use native.Mathlib.Decide.{dec_lt}
 use lib.Dec.{ltb, eqb}
-use borrow.Author.Tests.{lt-ltb, ltb-true, ltb-false, eqb-true, eqb-false}
+use borrow.Author.Tests.{lt-ltb, le-ltb, ltb-true, ltb-false, eqb-true, eqb-false}
 use Rattle.lemmas.proofs.Tests.{by_test, clash}
 use Rattle.std.specs.Prelude.{Option, None, Some, Result, Ok, Err}
-use Rattle.std.specs.Option.{MatchOption, unwrap_or}
+use Rattle.std.specs.Option.{MatchOption}
 use Rattle.checks.specs.declared.Refusal.{Refusal}
 use Rattle.checks.specs.declared.Refusal.TheVariants.{OutOfRange, BeyondRoom, NoSlotFree}
 use Rattle.checks.specs.Checks.{must}
@@ -71,9 +71,13 @@ module _ (f : ℕ → Bool) where
       : (n : ℕ) (r : Option ℕ)
       → MatchOption r ((t : ℕ) → 0 ≤ t → t < n → f t ≡ false)
       (λ s. (0 ≤ s) × (s < n) × (f s ≡ true) × ((t : ℕ) → 0 ≤ t → t < s → f t ≡ false))
-      → unwrap_or r n ≡ first_from f 0 n
-  first_found n None h = is_first_from n n (omega arith) h (λ l. absurd (omega arith))
-  first_found n (Some s) h = is_first_from n s (omega (arith, h.1)) h.3 (λ l. h.2)
+      → r ≡ cond (ltb (first_from f 0 n) n) (Some (first_from f 0 n)) None
+  first_found n None h =
+      let e = is_first_from n n (omega arith) h (λ l. absurd (omega arith)) in
+      simp (sym e, le-ltb n n (omega arith))
+  first_found n (Some s) h =
+      let e = is_first_from n s (omega (arith, h.1)) h.3 (λ l. h.2) in
+      simp (sym e, lt-ltb s n h.1)
 
 module _ (cells : List ℕ) (p : ℕ) where
   -- whether slot s of this room is free for the server

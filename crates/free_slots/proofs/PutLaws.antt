@@ -22,7 +22,8 @@ use Rattle.state.specs.declared.Answer.{Answer}
 use Rattle.state.specs.declared.Server.{Server}
 use Rattle.state.specs.declared.Step.TheVariants.{Offer}
 use Rattle.state.specs.Answers.{Answered}
-use Rattle.synod.specs.Arguments.{in_room, places_fit, command_fits}
+use Rattle.state.specs.Sizes.{in_room}
+use Rattle.synod.specs.Arguments.{places_fit, command_fits}
 use Rattle.synod.specs.Rules.{Ruling, ruling, offer_rule, rule_of}
 use Rattle.layout.specs.Cells.{sizes_of, limits_of, server_of}
 use Rattle.range.specs.Range.{in_range}
@@ -38,28 +39,16 @@ use Rattle.room.proofs.Checks.{passed}
 use Rattle.free_slots.proofs.AskLaws.{ask_names}
 
 module _ (r : List ℕ) (p s v : ℕ) where
-  pub put_3 : in_range r ≡ false → ruling (put_rule r p s v) ≡ Err OutOfRange
-  unfolding put_rule must
-  put_3 a = simp a
-
-  pub put_4 : in_range r ≡ true → in_room (sizes_of r) p s ≡ false → ruling (put_rule r p s v) ≡ Err BeyondRoom
-  unfolding put_rule must
-  put_4 a b = simp (a, b)
-
   module _ (a : in_range r ≡ true) (b : in_room (sizes_of r) p s ≡ true) where
     pub put_5 : is_command (limits_of r) v ≡ false → ruling (put_rule r p s v) ≡ Err NoCommand
     unfolding put_rule must
     put_5 c = simp (a, b, c)
 
-    module _ (c : is_command (limits_of r) v ≡ true) where
-      pub put_16 : free_at (sizes_of r) r p s ≡ false → ruling (put_rule r p s v) ≡ Err SlotNotFree
-      unfolding put_rule must
-      put_16 d = simp (a, b, c, d)
-
-      pub put_passed
-          : free_at (sizes_of r) r p s ≡ true → ruling (put_rule r p s v) ≡ ruling (offer_rule (server_of (sizes_of r) r s p) v)
-      unfolding put_rule must
-      put_passed d = simp (a, b, c, d)
+    pub put_passed
+        : is_command (limits_of r) v ≡ true → free_at (sizes_of r) r p s ≡ true
+        → ruling (put_rule r p s v) ≡ ruling (offer_rule (server_of (sizes_of r) r s p) v)
+    unfolding put_rule must
+    put_passed c d = simp (a, b, c, d)
 
   -- what holds of every refusal, and of the rule of Offer where the checks pass, holds of the ruling
   pub by_rule {ℓ}

@@ -1,5 +1,5 @@
 -- Ask (SPEC, "Ask and Put"): 3 the room, 4 the server, 17 no slot is free. It changes no cell.
-use Rattle.std.specs.Prelude.{ℕ, zero, suc, Bool, cond, List, ltb, Result, Ok, Err}
+use Rattle.std.specs.Prelude.{ℕ, zero, suc, Bool, cond, List, ltb, Option, Some, None, Result, Ok, Err}
 use Rattle.checks.specs.declared.Refusal.{Refusal}
 use Rattle.checks.specs.declared.Refusal.TheVariants.{OutOfRange, BeyondRoom, NoSlotFree}
 use Rattle.checks.specs.Checks.{Checked, Must, Gives, outcome}
@@ -20,6 +20,10 @@ first_from f s (suc n) = cond (f s) s (first_from f (suc s) n)
 -- the lowest slot that is free for server p; the number of slots where none is
 unfoldable pub lowest_free : Sizes → List ℕ → ℕ → ℕ
 lowest_free z cells p = first_from (free_at z cells p) 0 z.slots
+
+-- the same; none where no slot is free
+abbrev pub first_free : Sizes → List ℕ → ℕ → Option ℕ
+first_free z cells p = cond (ltb (lowest_free z cells p) z.slots) (Some (lowest_free z cells p)) None
 
 unfoldable pub ask_checks : List ℕ → ℕ → Checked ℕ
 ask_checks cells p =

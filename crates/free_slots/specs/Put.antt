@@ -6,7 +6,7 @@ use Rattle.checks.specs.declared.Refusal.TheVariants.{OutOfRange, BeyondRoom, No
 use Rattle.checks.specs.Checks.{Must, mapped, left_by}
 use Rattle.command.specs.Command.{is_command}
 use Rattle.state.specs.Answers.{Answered}
-use Rattle.synod.specs.Arguments.{in_room}
+use Rattle.state.specs.Sizes.{in_room}
 use Rattle.synod.specs.Rules.{Rule, ruling, offer_rule}
 use Rattle.layout.specs.Cells.{sizes_of, limits_of, server_of}
 use Rattle.range.specs.Range.{in_range}

@@ -4,7 +4,7 @@ ghost use Rattle.synod.specs.Rules.{ruling};
 ghost use Rattle.free_slots.specs.Put.{put_rule, put_answered, put_cells};
 
 use checks::Refusal;
-use layout::rooms::{Room, RoomMut};
+use layout::rooms::RoomMut;
 use state::Answer;
 use synod::Ruling;
 
@@ -18,27 +18,23 @@ pub fn put(room: &mut [u32], server: u32, slot: u32, command: u32) -> Result<Ans
 {
     let (record, answer) = judge_put(room, server, slot, command)?;
     let mut room = RoomMut::new(room);
-    room.store_server(slot as u8, server as u8, record);
+    room.store_server(slot, server, record);
     Ok(answer)
 }
 
 // The checks of a Put, then the rule of Offer. Nothing is stored.
-#[tactic(auto, using(range::proofs::Laws::ranged_row), unfolding(checks::specs::Checks::must, crate::specs::Put::put_rule, crate::specs::Ask::free_at))]
+#[tactic(auto, unfolding(checks::specs::Checks::must, crate::specs::Put::put_rule, crate::specs::Ask::free_at))]
 fn judge_put(room: &[u32], server: u32, slot: u32, command: u32) -> Ruling
     ensures { result ≡ ruling (put_rule room.now server slot command) }
 {
-    if !range::in_range(room) {
-        return Err(Refusal::OutOfRange);
-    }
-    let limits = layout::limits(room);
-    let room = Room::new(room);
-    if !((server < room.sizes.servers) & (slot < room.sizes.slots)) {
+    let room = range::room_in(room)?;
+    if !room.sizes.has_slot(server, slot) {
         return Err(Refusal::BeyondRoom);
     }
-    if !command::is_command(&limits, command) {
+    if !room.limits().is_command(command) {
         return Err(Refusal::NoCommand);
     }
-    let own = room.server(slot as u8, server as u8);
+    let own = room.server(slot, server);
     if !own.is_free() {
         return Err(Refusal::SlotNotFree);
     }

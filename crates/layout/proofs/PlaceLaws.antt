@@ -13,7 +13,8 @@ use lib.ListN.{length}
 use borrow.Author.Tests.{leb-true, le-leb, ltb-true}
 use Rattle.lemmas.proofs.Tests.{and_left, and_right}
 use Rattle.state.specs.declared.Sizes.{Sizes}
-use Rattle.layout.specs.Places.{base, server_length, block_length, longest_slot, longest_room, slot_length, room_length, slot_at, server_at, nth_block_at, block_at, sizes_fit, has_server, Fit, Row}
+use Rattle.state.specs.Sizes.{in_room}
+use Rattle.layout.specs.Places.{base, server_length, block_length, longest_slot, longest_room, slot_length, room_length, slot_at, server_at, nth_block_at, block_at, sizes_fit, has_record, Fit, Row}
 
 -- the test of the sizes and the bounds say the same
 pub fit_of : (z : Sizes) → sizes_fit z ≡ true → Fit z
@@ -51,24 +52,33 @@ of_fit z f =
     )
 
 -- the server and the slot that a room has, as bounds
-pub record HasServer (z : Sizes) (p s : ℕ) : Type 0 where
+pub record HasRecord (z : Sizes) (p s : ℕ) : Type 0 where
   pub fit : Fit z
   pub server : p < z.servers
   pub slot : s < z.slots
 
-pub has_server_lem : (z : Sizes) (p s : ℕ) → has_server z p s ≡ true → HasServer z p s
-has_server_lem z p s e =
-    let both = and_left (sizes_fit z && ltb p z.servers) (ltb s z.slots) e in
+pub has_record_lem : (z : Sizes) (p s : ℕ) → has_record z p s ≡ true → HasRecord z p s
+has_record_lem z p s e =
+    let both = and_right (sizes_fit z) (in_room z p s) e in
     record {
-      fit = fit_of z (and_left (sizes_fit z) (ltb p z.servers) both);
-      server = ltb-true p z.servers (and_right (sizes_fit z) (ltb p z.servers) both);
-      slot = ltb-true s z.slots (and_right (sizes_fit z && ltb p z.servers) (ltb s z.slots) e);
+      fit = fit_of z (and_left (sizes_fit z) (in_room z p s) e);
+      server = ltb-true p z.servers (and_left (ltb p z.servers) (ltb s z.slots) both);
+      slot = ltb-true s z.slots (and_right (ltb p z.servers) (ltb s z.slots) both);
     }
 
 module _ (z : Sizes) (fit : Fit z) where
   -- how large a slot and a room are at most
   pub blocks_bound : z.drives * z.servers ≤ 28
   blocks_bound = mul-le-mul fit.drives fit.servers
+
+  -- a slot has cells, and begins with those of its records
+  pub slot_some : 0 < slot_length z
+  unfolding slot_length
+  slot_some = omega (arith, fit.one_server)
+
+  pub records_within : server_length * z.servers ≤ slot_length z
+  unfolding slot_length
+  records_within = omega arith
 
   pub slot_bound : slot_length z ≤ longest_slot
   unfolding slot_length

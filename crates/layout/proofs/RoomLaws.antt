@@ -2,24 +2,50 @@
 -- server and drive.
 use Prim.Native.Nat.{ℕ, ◌+◌, ◌*◌, ◌<◌, ◌≤◌, ◌/◌, ◌%◌}
 use mathlib.Core.Path.{◌≡◌, ◌∙◌, sym, ap}
+use mathlib.Core.Bool.{true, ◌&&◌}
 use mathlib.Core.List.{List}
 use mathlib.Core.Logic.{inl, inr}
 use native.Mathlib.Omega.{arith}
 use lib.Arith.{digits_div, digits_mod}
+use lib.Dec.{eqb, leb}
 use lib.ListN.{length, get_or, set, length-set}
 use lib.Seq.{get_or-set_other}
+use borrow.Author.Tests.{le-leb, eqb-true, eq-eqb}
+use Rattle.lemmas.proofs.Tests.{and_left, and_right}
 use Rattle.state.specs.declared.Block.{Block}
 use Rattle.state.specs.declared.Server.{Server}
 use Rattle.state.specs.declared.Sizes.{Sizes}
-use Rattle.layout.specs.Places.{base, server_length, block_length, server_at, nth_block_at, block_at, Row}
-use Rattle.layout.specs.Cells.{put, sizes_of, off_of, off_at, server_cells, block_in, block_cells, server_of, put_server, block_of, put_block}
-use Rattle.layout.proofs.PlaceLaws.{Apart, server_within, block_within, nth_of, servers_apart, nths_apart, server_nth_apart, base_server, base_nth}
+use Rattle.layout.specs.Places.{base, server_length, block_length, room_length, server_at, nth_block_at, block_at, sizes_fit, Row}
+use Rattle.layout.specs.Cells.{put, sizes_of, is_row, off_of, off_at, server_cells, block_in, block_cells, server_of, put_server, block_of, put_block}
+use Rattle.layout.proofs.PlaceLaws.{Apart, fit_of, of_fit, row_head, server_within, block_within, nth_of, servers_apart, nths_apart, server_nth_apart, base_server, base_nth}
 use Rattle.layout.proofs.CellLaws.{Same, put-length, put_outside, server_same, block_same, apart_same, put_server_lem, put_block_lem}
 
 -- what is apart one way is apart the other way
 pub turned : (a n b m : ℕ) → Apart a n b m → Apart b m a n
 unfolding Apart
 turned a n b m h = mathlib.Core.Logic.⊎_elim inr inl h
+
+-- the test of a row and its facts say the same
+pub row_says : (r : List ℕ) → is_row r ≡ true → Row (sizes_of r) r
+unfolding is_row
+row_says r e =
+    let z = sizes_of r in
+    let head = leb base (length r) in
+    let exact = eqb (length r) (room_length z) in
+    let front = and_left (head && sizes_fit z) exact e in
+    record {
+      fit = fit_of z (and_right head (sizes_fit z) front);
+      exact = eqb-true (length r) (room_length z) (and_right (head && sizes_fit z) exact e);
+    }
+
+pub says_row : (r : List ℕ) → Row (sizes_of r) r → is_row r ≡ true
+unfolding is_row
+says_row r row =
+    simp (
+      le-leb base (length r) (row_head (sizes_of r) r row),
+      of_fit (sizes_of r) row.fit,
+      eq-eqb (length r) (room_length (sizes_of r)) row.exact,
+    )
 
 -- sizes and off marks of a row are in its first four cells
 pub head_same : (r t : List ℕ) → ((i : ℕ) → i < base → get_or r i 0 ≡ get_or t i 0) → sizes_of r ≡ sizes_of t

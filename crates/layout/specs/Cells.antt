@@ -1,10 +1,10 @@
 -- A record and a block as cells, read from a row and stored in it (SPEC, "The room in memory").
-use Rattle.std.specs.Prelude.{ℕ, ◌+◌, List, [], ◌∷◌, get_or, set}
+use Rattle.std.specs.Prelude.{ℕ, ◌+◌, Bool, ◌&&◌, List, [], ◌∷◌, length, get_or, set, eqb, leb}
 use Rattle.command.specs.Command.{cabinet_limits}
 use Rattle.state.specs.declared.Block.{Block}
 use Rattle.state.specs.declared.Server.{Server}
 use Rattle.state.specs.declared.Sizes.{Sizes}
-use Rattle.layout.specs.Places.{server_at, block_at}
+use Rattle.layout.specs.Places.{base, sizes_fit, room_length, server_at, block_at}
 
 -- what is stored from cell at + k on
 abbrev pub put_from : List ℕ → ℕ → ℕ → List ℕ → List ℕ
@@ -18,6 +18,15 @@ put cells at (x ∷ xs) = put_from (set cells at x) at 1 xs
 
 abbrev pub sizes_of : List ℕ → Sizes
 sizes_of cells = record { servers = get_or cells 0 0; drives = get_or cells 1 0; slots = get_or cells 2 0 }
+
+-- the cells of the sizes
+abbrev pub sizes_cells : Sizes → List ℕ
+sizes_cells z = z.servers ∷ z.drives ∷ z.slots ∷ []
+
+-- a row that is as long as the sizes in its head say
+unfoldable pub is_row : List ℕ → Bool
+is_row cells =
+    leb base (length cells) && sizes_fit (sizes_of cells) && eqb (length cells) (room_length (sizes_of cells))
 
 -- the cell of off marks
 abbrev pub off_at : ℕ

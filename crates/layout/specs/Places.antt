@@ -1,6 +1,7 @@
 -- The places of a room (SPEC, "The room in memory"). The literals of the layout stand here and in Cells alone.
-use Rattle.std.specs.Prelude.{ℕ, ◌+◌, ◌*◌, ◌≤◌, Bool, ◌&&◌, cond, List, ◌≡◌, length, leb, ltb}
+use Rattle.std.specs.Prelude.{ℕ, ◌+◌, ◌*◌, ◌≤◌, Bool, ◌&&◌, cond, List, ◌≡◌, length, leb}
 use Rattle.state.specs.declared.Sizes.{Sizes}
+use Rattle.state.specs.Sizes.{in_room, drive_fits}
 
 -- cells 0 to 3 are N, D, S and the off marks
 abbrev pub base : ℕ
@@ -56,17 +57,17 @@ sizes_fit z =
 abbrev pub length_of : Sizes → ℕ
 length_of z = cond (sizes_fit z) (room_length z) 0
 
--- a room of these sizes has server p and slot s
-abbrev pub has_server : Sizes → ℕ → ℕ → Bool
-has_server z p s = sizes_fit z && ltb p z.servers && ltb s z.slots
+-- a room of these sizes has a record of server p in slot s
+abbrev pub has_record : Sizes → ℕ → ℕ → Bool
+has_record z p s = sizes_fit z && in_room z p s
 
 -- where server p's record in slot s begins; 0, which is a cell of the head, where the room has no such place
 abbrev pub server_place : Sizes → ℕ → ℕ → ℕ
-server_place z p s = cond (has_server z p s) (server_at z s p) 0
+server_place z p s = cond (has_record z p s) (server_at z s p) 0
 
 -- where its block on drive d begins, likewise
 abbrev pub block_place : Sizes → ℕ → ℕ → ℕ → ℕ
-block_place z p s d = cond (has_server z p s && ltb d z.drives) (block_at z s d p) 0
+block_place z p s d = cond (has_record z p s && drive_fits z d) (block_at z s d p) 0
 
 -- the sizes as bounds
 pub record Fit (z : Sizes) : Type 0 where

@@ -11,6 +11,8 @@ pub struct Plan {
     ghost fit: { Fit sizes },
 }
 
+// `as` keeps the number: std has no From of a u32 for a usize. That a place is in the room is a clause of each method: as a type
+// it would carry sizes, and still ask that they are these.
 impl Plan {
     // The plan of a room of these sizes, where there is one.
     #[tactic(auto, using(crate::proofs::PlaceLaws::fit_of))]
@@ -45,7 +47,7 @@ impl Plan {
 
     // Where the record of server p in slot s begins.
     #[tactic(auto, using(crate::proofs::PlaceLaws::slots_small), unfolding(crate::specs::Places::server_at, crate::specs::Places::slot_at))]
-    pub fn server_at(self, s: u8, p: u8) -> usize
+    pub fn server_at(self, s: u32, p: u32) -> usize
         requires { (s < self.sizes.slots) × (p < self.sizes.servers) }
         ensures { result ≡ server_at self.sizes s p }
     {
@@ -54,7 +56,7 @@ impl Plan {
 
     // Where server p's block on drive d in slot s begins.
     #[tactic(auto, using(crate::proofs::PlaceLaws::slots_small, crate::proofs::PlaceLaws::nth_small), unfolding(crate::specs::Places::block_at, crate::specs::Places::nth_block_at, crate::specs::Places::slot_at))]
-    pub fn block_at(self, s: u8, d: u8, p: u8) -> usize
+    pub fn block_at(self, s: u32, d: u32, p: u32) -> usize
         requires { (s < self.sizes.slots) × (d < self.sizes.drives) × (p < self.sizes.servers) }
         ensures { result ≡ block_at self.sizes s d p }
     {

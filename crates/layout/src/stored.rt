@@ -1,7 +1,8 @@
 ghost use Rattle.std.specs.Prelude.{◌≡◌, ◌+◌, ◌≤◌, ℕ, List, length, take, drop, refl};
-ghost use Rattle.layout.specs.Cells.{put, server_in, server_cells, block_in, block_cells};
+ghost use Rattle.layout.specs.Cells.{put, sizes_of, sizes_cells, server_in, server_cells, block_in, block_cells};
 
-use state::{Block, Server};
+use crate::{BLOCK_CELLS, SERVER_CELLS, SIZES_CELLS};
+use state::{Block, Server, Sizes};
 
 // What stands in a row as N cells.
 pub trait Stored<const N: usize>: Copy {
@@ -20,15 +21,41 @@ pub trait Stored<const N: usize>: Copy {
     ghost same: { (v : Self) → of_cells (cells_of v) ≡ v };
 }
 
+// The sizes in the head of a room.
+impl Stored<SIZES_CELLS> for Sizes {
+    ghost of_cells = { sizes_of };
+
+    ghost cells_of = { sizes_cells };
+
+    ghost same = { λ v. refl };
+
+    fn from_cells(cells: [u32; SIZES_CELLS]) -> Sizes
+        ensures { result ≡ sizes_of cells }
+    {
+        let [servers, drives, slots] = cells;
+        Sizes {
+            servers,
+            drives,
+            slots,
+        }
+    }
+
+    fn to_cells(self) -> [u32; SIZES_CELLS]
+        ensures { result ≡ sizes_cells self }
+    {
+        [self.servers, self.drives, self.slots]
+    }
+}
+
 // The eleven cells of a server record.
-impl Stored<11> for Server {
+impl Stored<SERVER_CELLS> for Server {
     ghost of_cells = { λ cells. server_in cells 0 };
 
     ghost cells_of = { server_cells };
 
     ghost same = { λ v. refl };
 
-    fn from_cells(cells: [u32; 11]) -> Server
+    fn from_cells(cells: [u32; SERVER_CELLS]) -> Server
         ensures { result ≡ server_in cells 0 }
     {
         let [
@@ -59,7 +86,7 @@ impl Stored<11> for Server {
         }
     }
 
-    fn to_cells(self) -> [u32; 11]
+    fn to_cells(self) -> [u32; SERVER_CELLS]
         ensures { result ≡ server_cells self }
     {
         [
@@ -79,14 +106,14 @@ impl Stored<11> for Server {
 }
 
 // The four cells of a block.
-impl Stored<4> for Block {
+impl Stored<BLOCK_CELLS> for Block {
     ghost of_cells = { λ cells. block_in cells 0 };
 
     ghost cells_of = { block_cells };
 
     ghost same = { λ v. refl };
 
-    fn from_cells(cells: [u32; 4]) -> Block
+    fn from_cells(cells: [u32; BLOCK_CELLS]) -> Block
         ensures { result ≡ block_in cells 0 }
     {
         let [mbal, bal, inp, done] = cells;
@@ -98,14 +125,14 @@ impl Stored<4> for Block {
         }
     }
 
-    fn to_cells(self) -> [u32; 4]
+    fn to_cells(self) -> [u32; BLOCK_CELLS]
         ensures { result ≡ block_cells self }
     {
         [self.mbal, self.bal, self.inp, self.done]
     }
 }
 
-// What stands at a place of a row.
+// What stands at a place of a row. A row and a place, and no part of it: `Plan` counts the places in the row.
 pub fn stored_at<T: Stored<N>, const N: usize>(row: &[u32], at: usize) -> T
     requires { at + N ≤ length row.now }
     ensures { result ≡ T.of_cells (take N (drop at row.now)) }
@@ -113,7 +140,7 @@ pub fn stored_at<T: Stored<N>, const N: usize>(row: &[u32], at: usize) -> T
     T::from_cells(row[at..at + N].try_into().unwrap())
 }
 
-// Stores it there.
+// Stores a value at a place of a row.
 pub fn store_at<T: Stored<N>, const N: usize>(row: &mut [u32], at: usize, v: T)
     requires { at + N ≤ length row.old }
     ensures { row.new ≡ put row.old at (T.cells_of v) }

@@ -3,5 +3,5 @@ pub mod MaskTable
 pub mod Laws
 pub mod RecordLaws
 pub mod Together
-pub mod Pieces
+pub mod Chunks
 pub mod Slots

@@ -14,8 +14,8 @@ use Rattle.state.specs.declared.Sizes.{Sizes}
 use Rattle.layout.specs.Places.{base, server_length, block_length, slot_length, room_length, slot_at, server_at, nth_block_at, Row}
 use Rattle.layout.specs.Cells.{server_in, server_of, block_in}
 use Rattle.layout.proofs.PlaceLaws.{slot_within}
-use Rattle.range.specs.Range.{masks_of, server_fits, block_fits, pieces, every_block, slot_in, servers_fit, blocks_fit, slot_fits}
-use Rattle.range.proofs.Pieces.{every_chunk, all_below_same}
+use Rattle.range.specs.Range.{masks_of, server_fits, block_fits, chunks, every_block, slot_in, servers_fit, blocks_fit, slot_fits}
+use Rattle.range.proofs.Chunks.{every_chunk, all_below_same}
 
 -- a cell of a part, and a record and a block by their cells
 part_at : (n k : ℕ) (xs : List ℕ) (i : ℕ) → i < n → get_or (take n (drop k xs)) i 0 ≡ get_or xs (k + i) 0
@@ -70,7 +70,7 @@ module _ (value : ℕ → Bool) (z : Sizes) (row : List ℕ) (r : Row z row) whe
     cell : (i : ℕ) → i < slot_length z → get_or (slot s) i 0 ≡ get_or row (base + (s * slot_length z + i)) 0
     cell i l = part_at (slot_length z) (s * slot_length z) (drop base row) i l ∙ get_or-drop base row (s * slot_length z + i) 0
 
-    servers : list_all (λ cells. server_fits value (masks_of z) (server_in cells 0)) (pieces server_length (take records (slot s))) ≡ servers_fit value z row s
+    servers : list_all (λ cells. server_fits value (masks_of z) (server_in cells 0)) (chunks server_length (take records (slot s))) ≡ servers_fit value z row s
     unfolding servers_fit server_of server_at slot_at slot_length
     servers =
         let e = long in
@@ -89,7 +89,7 @@ module _ (value : ℕ → Bool) (z : Sizes) (row : List ℕ) (r : Row z row) whe
         ∙ cell (p * server_length + i) (omega arith)
         ∙ ap (λ (t : ℕ). get_or row t 0) n)))
 
-    blocks : every_block (block_fits value) (pieces block_length (drop records (slot s))) ≡ blocks_fit value z row s
+    blocks : every_block (block_fits value) (chunks block_length (drop records (slot s))) ≡ blocks_fit value z row s
     unfolding blocks_fit nth_block_at slot_at slot_length
     blocks =
         let e = long in
@@ -121,7 +121,7 @@ module _ (value : ℕ → Bool) (z : Sizes) (row : List ℕ) (r : Row z row) whe
       ap (λ (k : ℕ). k / slot_length z) b ∙ div-mul-add z.slots (slot_length z) 0 (omega (arith, r.fit))
 
   pub slots_as_rule
-      : list_all (slot_in value (masks_of z) records) (pieces (slot_length z) (drop base row)) ≡ all_below z.slots (slot_fits value z row)
+      : list_all (slot_in value (masks_of z) records) (chunks (slot_length z) (drop base row)) ≡ all_below z.slots (slot_fits value z row)
   slots_as_rule =
       ap (λ (k : ℕ). list_all (slot_in value (masks_of z) records) (first_chunks (slot_length z) k (drop base row))) count
       ∙ every_chunk (slot_in value (masks_of z) records) (slot_length z) z.slots (drop base row)

@@ -8,8 +8,8 @@ use Rattle.state.specs.Block.{ballot_fits}
 use Rattle.state.specs.declared.Block.{Block}
 use Rattle.state.specs.declared.Server.{Server}
 use Rattle.state.specs.declared.Sizes.{Sizes}
-use Rattle.layout.specs.Places.{base, server_length, block_length, sizes_fit, room_length, nth_block_at}
-use Rattle.layout.specs.Cells.{sizes_of, off_of, limits_of, server_in, server_of, block_in}
+use Rattle.layout.specs.Places.{server_length, block_length, nth_block_at}
+use Rattle.layout.specs.Cells.{sizes_of, is_row, off_of, limits_of, server_in, server_of, block_in}
 use Rattle.range.specs.declared.Masks.{Masks}
 
 -- the marks that may stand: of drives, and of blocks read (bit 4d + q)
@@ -53,9 +53,9 @@ values_fit value b = value b.inp && value b.done
 unfoldable pub block_fits : (ℕ → Bool) → Block → Bool
 block_fits value b = ballots_fit b && values_fit value b
 
--- a row of cells as pieces of n cells each
-abbrev pub pieces : ℕ → List ℕ → List (List ℕ)
-pieces n cells = first_chunks n (length cells / n) cells
+-- a row of cells as chunks of n cells each
+abbrev pub chunks : ℕ → List ℕ → List (List ℕ)
+chunks n cells = first_chunks n (length cells / n) cells
 
 -- some blocks by their cells, and a test of each of them
 abbrev pub blocks_of : List (List ℕ) → List Block
@@ -67,8 +67,8 @@ every_block test blocks = list_all (λ cells. test (block_in cells 0)) blocks
 -- a slot as a row of its own, which begins with n cells of server records
 abbrev pub slot_in : (ℕ → Bool) → Masks → ℕ → List ℕ → Bool
 slot_in value k n slot =
-    list_all (λ cells. server_fits value k (server_in cells 0)) (pieces server_length (take n slot))
-    && every_block (block_fits value) (pieces block_length (drop n slot))
+    list_all (λ cells. server_fits value k (server_in cells 0)) (chunks server_length (take n slot))
+    && every_block (block_fits value) (chunks block_length (drop n slot))
 
 -- a block with no value but v
 unfoldable pub holds_only : ℕ → Block → Bool
@@ -85,14 +85,10 @@ blocks_fit value z cells s = all_below (z.drives * z.servers) (λ j. block_fits 
 unfoldable pub slot_fits : (ℕ → Bool) → Sizes → List ℕ → ℕ → Bool
 slot_fits value z cells s = servers_fit value z cells s && blocks_fit value z cells s
 
--- the cells of a row of these sizes
-unfoldable pub cells_fit : List ℕ → Sizes → List ℕ → Bool
-cells_fit limits z cells =
-    sizes_fit z
-    && eqb (length cells) (room_length z)
-    && within (off_of cells) (legal_drives z)
-    && all_below z.slots (slot_fits (value_fits limits) z cells)
+-- the off marks and the slots of a room of these sizes
+unfoldable pub room_fits : List ℕ → Sizes → List ℕ → Bool
+room_fits limits z cells = within (off_of cells) (legal_drives z) && all_below z.slots (slot_fits (value_fits limits) z cells)
 
 -- a row that is a room with every cell in range
 unfoldable pub in_range : List ℕ → Bool
-in_range cells = leb base (length cells) && cells_fit (limits_of cells) (sizes_of cells) cells
+in_range cells = is_row cells && room_fits (limits_of cells) (sizes_of cells) cells

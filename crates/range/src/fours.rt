@@ -9,16 +9,18 @@ ghost use Rattle.layout.specs.Cells.{block_in};
 ghost use Rattle.range.specs.Range.{ballots_fit, values_fit, block_fits, blocks_of, every_block, holds_only};
 
 use crate::values::{ballots_fit, block_fits, values_fit};
-use command::is_value;
-use layout::{BLOCK_CELLS, block_in};
+use command::Tops;
+use layout::BLOCK_CELLS;
+use layout::stored::Stored;
 use state::Block;
 
 // The cells of four blocks that stand one after the other.
 type Four = [[u32; BLOCK_CELLS]; 4];
 
-// Every four of a slot.
-pub(crate) fn fours_fit(tops: &[u8; 96], fours: &[Four]) -> bool
-    ensures { result ≡ list_all (every_block (block_fits (value_by tops.now))) fours.now }
+// Every four of a slot. The table is a parameter here and in `values`, as what it judges has no other in common; and that a value
+// is judged is a clause, since a type would have to carry the table.
+pub(crate) fn fours_fit(tops: &Tops, fours: &[Four]) -> bool
+    ensures { result ≡ list_all (every_block (block_fits (value_by tops.now.0))) fours.now }
 {
     let Some(first) = fours.first() else {
         return true;
@@ -31,14 +33,22 @@ pub(crate) fn fours_fit(tops: &[u8; 96], fours: &[Four]) -> bool
         return fours.iter().all(|four| four_with(tops, four, v));
     }
     // A server writes the same block to every drive, so the others are often the first four again.
-    four_fits(tops, first) && fours.iter().all(|four| four_like(tops, first, four))
+    each(first, |b| block_fits(tops, b)) && fours.iter().all(|four| four_like(tops, first, four))
 }
 
 // A block by its cells.
 pub(crate) fn block(cells: &[u32; BLOCK_CELLS]) -> Block
     ensures { result ≡ block_in cells.now 0 }
 {
-    block_in(cells, 0)
+    Block::from_cells(*cells)
+}
+
+// Whether each block passes a test, one after the other.
+pub(crate) fn each<F: Fn(Block) -> bool>(blocks: &[[u32; BLOCK_CELLS]], test: F) -> bool
+    requires { F.IsAlwaysCallable test }
+    ensures { (p : Block → Bool) → ((b : Block) (r : Bool) → F.post test b r → r ≡ p b) → result ≡ every_block p blocks.now }
+{
+    blocks.iter().all(|cells| test(block(cells)))
 }
 
 // Whether each of the four passes a test, with no branch between them, so that the back end makes vectors.
@@ -46,7 +56,8 @@ fn all_at_once<F: Fn(Block) -> bool>(four: &Four, test: F) -> bool
     requires { F.IsAlwaysCallable test }
     ensures { (p : Block → Bool) → ((b : Block) (r : Bool) → F.post test b r → r ≡ p b) → result ≡ every_block p four.now }
 {
-    test(block(&four[0])) & test(block(&four[1])) & test(block(&four[2])) & test(block(&four[3]))
+    four.iter()
+        .fold(true, |all, cells| all & test(block(cells)))
 }
 
 // Whether no block of these fours was written.
@@ -62,17 +73,14 @@ fn four_blank(four: &Four) -> bool
     all_at_once(four, |b| Block::BLANK.same(b))
 }
 
-// The value of four blocks that hold one and no other; of others any value.
+// The value of four blocks that hold one and no other. Of others any value, here 0, and no Option: whether the blocks hold it is
+// asked of the blocks.
 #[tactic(auto, using(crate::proofs::Together::zero_by))]
-fn common_value(tops: &[u8; 96], four: &Four) -> u32
-    ensures { value_by tops.now result ≡ true }
+fn common_value(tops: &Tops, four: &Four) -> u32
+    ensures { value_by tops.now.0 result ≡ true }
 {
-    let a = block(&four[0]);
-    let b = block(&four[1]);
-    let c = block(&four[2]);
-    let d = block(&four[3]);
-    let v = a.inp | a.done | b.inp | b.done | c.inp | c.done | d.inp | d.done;
-    if is_value(tops, v) { v } else { 0 }
+    let v = four.iter().fold(0, |v, [_, _, inp, done]| v | inp | done);
+    if tops.is_value(v) { v } else { 0 }
 }
 
 // Whether four blocks hold no value but v.
@@ -90,9 +98,9 @@ fn holds_only(v: u32, b: Block) -> bool
 }
 
 // Four blocks. Where they hold v and no other value, which is judged already, the table is not looked at.
-fn four_with(tops: &[u8; 96], four: &Four, v: u32) -> bool
-    requires { value_by tops.now v ≡ true }
-    ensures { result ≡ every_block (block_fits (value_by tops.now)) four.now }
+fn four_with(tops: &Tops, four: &Four, v: u32) -> bool
+    requires { value_by tops.now.0 v ≡ true }
+    ensures { result ≡ every_block (block_fits (value_by tops.now.0)) four.now }
 {
     if !all_at_once(four, ballots_fit) {
         return false;
@@ -100,36 +108,22 @@ fn four_with(tops: &[u8; 96], four: &Four, v: u32) -> bool
     if four_hold(four, v) {
         return true;
     }
-    four_values_fit(tops, four)
-}
-
-fn four_values_fit(tops: &[u8; 96], four: &Four) -> bool
-    ensures { result ≡ every_block (values_fit (value_by tops.now)) four.now }
-{
-    four.iter().all(|cells| values_fit(tops, block(cells)))
+    each(four, |b| values_fit(tops, b))
 }
 
 // Four blocks, beside four that are in range.
-fn four_like(tops: &[u8; 96], judged: &Four, four: &Four) -> bool
-    requires { every_block (block_fits (value_by tops.now)) judged.now ≡ true }
-    ensures { result ≡ every_block (block_fits (value_by tops.now)) four.now }
+fn four_like(tops: &Tops, judged: &Four, four: &Four) -> bool
+    requires { every_block (block_fits (value_by tops.now.0)) judged.now ≡ true }
+    ensures { result ≡ every_block (block_fits (value_by tops.now.0)) four.now }
 {
-    four_same(judged, four) || four_fits(tops, four)
+    four_same(judged, four) || each(four, |b| block_fits(tops, b))
 }
 
 // Whether two fours are alike, by pairs of blocks. `==` of the arrays stops at each cell, and a full room takes a fifth longer.
 fn four_same(a: &Four, b: &Four) -> bool
     ensures { result ≡ true → blocks_of b.now ≡ blocks_of a.now }
 {
-    block(&a[0]).same(block(&b[0]))
-        & block(&a[1]).same(block(&b[1]))
-        & block(&a[2]).same(block(&b[2]))
-        & block(&a[3]).same(block(&b[3]))
-}
-
-// Four blocks, one after the other.
-fn four_fits(tops: &[u8; 96], four: &Four) -> bool
-    ensures { result ≡ every_block (block_fits (value_by tops.now)) four.now }
-{
-    four.iter().all(|cells| block_fits(tops, block(cells)))
+    a.iter()
+        .zip(b.iter())
+        .fold(true, |same, (x, y)| same & block(x).same(block(y)))
 }

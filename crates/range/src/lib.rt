@@ -4,17 +4,21 @@
 mod fours;
 mod values;
 
-ghost use Rattle.std.specs.Prelude.{◌≡◌, ◌<◌, ◌≤◌, length};
+ghost use Rattle.std.specs.Prelude.{◌≡◌, ◌*◌, ◌≤◌, true, false, length, MatchResult};
 ghost use Rattle.std.specs.List.{list_all};
 ghost use Rattle.command.specs.Tops.{value_by};
-ghost use Rattle.layout.specs.Places.{server_length, block_length};
-ghost use Rattle.layout.specs.Cells.{server_in};
-ghost use Rattle.range.specs.Range.{masks_of, numbers_fit, server_fits, block_fits, pieces, every_block, slot_in, in_range};
+ghost use Rattle.checks.specs.declared.Refusal.TheVariants.{OutOfRange};
+ghost use Rattle.layout.specs.Places.{server_length, block_length, slot_length};
+ghost use Rattle.layout.specs.Cells.{server_in, limits_of};
+ghost use Rattle.range.specs.Range.{masks_of, numbers_fit, server_fits, block_fits, chunks, every_block, slot_in, room_fits, in_range};
 
-use command::tops_of;
-use fours::{block, fours_fit};
+use checks::Refusal;
+use command::Tops;
+use fours::{each, fours_fit};
 use layout::plan::Plan;
-use layout::{BLOCK_CELLS, SERVER_CELLS, server_in, sizes};
+use layout::rooms::Room;
+use layout::stored::Stored;
+use layout::{BASE, BLOCK_CELLS, SERVER_CELLS};
 use quorum::only_legal;
 use state::{Block, Server};
 use values::{block_fits, own_values_fit};
@@ -38,74 +42,79 @@ pub fn masks_of(plan: Plan) -> Masks
     }
 }
 
-// Whether the row is a room with every cell in range, by the room's own limits.
-pub fn in_range(room: &[u32]) -> bool
-    ensures { result ≡ in_range room.now }
+// The room that a row is, where every cell is in range by the room's own limits.
+#[tactic(auto, using(crate::proofs::Laws::no_row, crate::proofs::Laws::row_in))]
+pub fn room_in<'a>(cells: &'a [u32]) -> Result<Room<'a>, Refusal>
+    ensures { MatchResult result
+        (λ room. (in_range cells.now ≡ true) × (room.cells.now ≡ cells.now))
+        (λ refusal. (in_range cells.now ≡ false) × (refusal ≡ OutOfRange)) }
 {
-    if room.len() < layout::BASE {
-        return false;
+    let room = Room::of(cells).ok_or(Refusal::OutOfRange)?;
+    if !room_fits(&room) {
+        return Err(Refusal::OutOfRange);
     }
-    let limits = layout::limits(room);
-    let Some(plan) = Plan::of(sizes(room)) else {
-        return false;
-    };
-    if room.len() != plan.room_length() {
-        return false;
-    }
-    let k = masks_of(plan);
-    if !only_legal(room[layout::OFF], k.drives) {
-        return false;
-    }
-    let legal = Legal {
-        tops: tops_of(&limits),
-        marks: k,
-    };
-    let records = SERVER_CELLS * (plan.sizes.servers as usize);
-    legal.slots_fit(&room[layout::BASE..], plan.slot_length(), records)
+    Ok(room)
 }
 
-// What a room's cells are judged by: the table of values, by the room's limits, and the legal marks.
+// Whether the off marks and the slots of a room are in range.
+fn room_fits(room: &Room) -> bool
+    ensures { result ≡ room_fits (limits_of room.now.cells.now) room.now.sizes room.now.cells.now }
+{
+    let plan = room.plan();
+    let legal = Legal {
+        tops: room.limits().tops(),
+        marks: masks_of(plan),
+        plan,
+    };
+    only_legal(room.off(), legal.marks.drives) && legal.slots_fit(&room.cells[BASE..])
+}
+
+// What a room's cells are judged by: the table of values, by the room's limits, the legal marks, and the places.
 #[derive(Drop)]
 struct Legal {
-    tops: [u8; 96],
+    tops: Tops,
     marks: Masks,
+    plan: Plan,
 }
 
 impl Legal {
-    // Every slot of a row of them, each of `length` cells that begin with those of its server records.
-    fn slots_fit(&self, cells: &[u32], length: usize, records: usize) -> bool
-        requires { (0 < length) × (records ≤ length) }
-        ensures { result ≡ list_all (slot_in (value_by self.now.tops) self.now.marks records) (pieces length cells.now) }
+    // Every slot of a row of them.
+    #[tactic(auto, using(layout::proofs::PlaceLaws::slot_some))]
+    fn slots_fit(&self, cells: &[u32]) -> bool
+        ensures { result ≡ list_all (slot_in (value_by self.now.tops.0) self.now.marks (server_length * self.now.plan.sizes.servers)) (chunks (slot_length self.now.plan.sizes) cells.now) }
     {
         cells
-            .chunks_exact(length)
-            .all(|slot| self.slot_fits(slot, records))
+            .chunks_exact(self.plan.slot_length())
+            .all(|slot| self.slot_fits(slot))
     }
 
     // One slot: its server records, then its blocks.
-    fn slot_fits(&self, slot: &[u32], records: usize) -> bool
-        requires { records ≤ length slot.now }
-        ensures { result ≡ slot_in (value_by self.now.tops) self.now.marks records slot.now }
+    #[tactic(auto, using(layout::proofs::PlaceLaws::records_within))]
+    fn slot_fits(&self, slot: &[u32]) -> bool
+        requires { length slot.now ≡ slot_length self.now.plan.sizes }
+        ensures { result ≡ slot_in (value_by self.now.tops.0) self.now.marks (server_length * self.now.plan.sizes.servers) slot.now }
     {
-        let (servers, blocks) = slot.split_at(records);
+        // `as` keeps the number: std has no From of a u32 for a usize.
+        let (servers, blocks) = slot.split_at(SERVER_CELLS * (self.plan.sizes.servers as usize));
         self.servers_fit(servers) && blocks_fit(&self.tops, blocks)
     }
 
     // The server records that stand one after the other.
     fn servers_fit(&self, cells: &[u32]) -> bool
-        ensures { result ≡ list_all (λ r. server_fits (value_by self.now.tops) self.now.marks (server_in r 0)) (pieces server_length cells.now) }
+        ensures { result ≡ list_all (λ r. server_fits (value_by self.now.tops.0) self.now.marks (server_in r 0)) (chunks server_length cells.now) }
     {
         let (records, _) = cells.as_chunks::<SERVER_CELLS>();
-        records.iter().all(|r| self.server_fits(server_in(r, 0)))
+        records
+            .iter()
+            .all(|r| self.server_fits(Server::from_cells(*r)))
     }
 
     // One server record. Its numbers are judged together, then its values.
     #[tactic(auto, unfolding(crate::specs::Range::server_fits))]
     fn server_fits(&self, v: Server) -> bool
-        ensures { result ≡ server_fits (value_by self.now.tops) self.now.marks v }
+        ensures { result ≡ server_fits (value_by self.now.tops.0) self.now.marks v }
     {
-        numbers_fit(self.marks, v)
-            && own_values_fit(&self.tops, v.inp, v.offer, v.seeninp, v.agreed)
+        numbers_fit(self.marks, v) && own_values_fit(&self.tops, v)
     }
 }
 
@@ -123,17 +132,10 @@ fn numbers_fit(k: Masks, v: Server) -> bool
 }
 
 // The blocks that stand one after the other: four at a time, then the rest one by one.
-fn blocks_fit(tops: &[u8; 96], cells: &[u32]) -> bool
-    ensures { result ≡ every_block (block_fits (value_by tops.now)) (pieces block_length cells.now) }
+fn blocks_fit(tops: &Tops, cells: &[u32]) -> bool
+    ensures { result ≡ every_block (block_fits (value_by tops.now.0)) (chunks block_length cells.now) }
 {
     let (blocks, _) = cells.as_chunks::<BLOCK_CELLS>();
     let (fours, rest) = blocks.as_chunks::<4>();
-    fours_fit(tops, fours) && rest_fit(tops, rest)
-}
-
-// Apart from four_fits, which the back end unrolls: with one function for both, judging the room of a run takes a tenth longer.
-fn rest_fit(tops: &[u8; 96], blocks: &[[u32; BLOCK_CELLS]]) -> bool
-    ensures { result ≡ every_block (block_fits (value_by tops.now)) blocks.now }
-{
-    blocks.iter().all(|cells| block_fits(tops, block(cells)))
+    fours_fit(tops, fours) && each(rest, |b| block_fits(tops, b))
 }

@@ -10,10 +10,6 @@ use Rattle.catalogue.specs.Listing.{taken_of, skipped_of}
 use Rattle.catalogue.proofs.AnswerLaws.{accepted_is, accepted_says}
 use Rattle.register_c.specs.Packing.{packed, packed_listing}
 
--- an accepted call without a word is its number alone
-pub no_word : (n : ℕ) → n ≡ packed 0 n
-no_word n = omega arith
-
 module _ (word number : ℕ) (fits : number < 4294967296) where
   pub upper : packed word number / 4294967296 ≡ word
   upper = omega arith

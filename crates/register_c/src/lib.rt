@@ -20,19 +20,13 @@ ghost use Rattle.register_c.specs.Calls.{record_answered, record_stepped, field_
 use register::{Fields, Refusal};
 use state::{Answer, Sizes};
 
-// The word of a refusal.
-const REFUSED: u32 = 4;
-
 // The cells of a room of these sizes, 0 where they do not fit.
 #[unsafe(no_mangle)]
 pub extern "C" fn register_length(servers: u32, drives: u32, slots: u32) -> u32
     ensures { result ≡ length_of (sizes servers drives slots) }
 {
-    let z = Sizes {
-        servers,
-        drives,
-        slots,
-    };
+    let z = Sizes::new(servers, drives, slots);
+    // Here and below, `as` keeps the number: std has no From for it, and try_from would add a case.
     register::length_of(z) as u32
 }
 
@@ -47,11 +41,7 @@ pub extern "C" fn register_server_at(
 ) -> u32
     ensures { result ≡ server_place (sizes servers drives slots) server slot }
 {
-    let z = Sizes {
-        servers,
-        drives,
-        slots,
-    };
+    let z = Sizes::new(servers, drives, slots);
     register::server_place(z, server, slot) as u32
 }
 
@@ -67,11 +57,7 @@ pub extern "C" fn register_block_at(
 ) -> u32
     ensures { result ≡ block_place (sizes servers drives slots) server slot drive }
 {
-    let z = Sizes {
-        servers,
-        drives,
-        slots,
-    };
+    let z = Sizes::new(servers, drives, slots);
     register::block_place(z, server, slot, drive) as u32
 }
 
@@ -81,10 +67,8 @@ pub extern "C" fn register_open(row: &mut [u32], servers: u32, drives: u32, slot
     ensures { (result ≡ refusal_in (opening (sizes servers drives slots) row.old))
         × (row.new ≡ opened (sizes servers drives slots) row.old) }
 {
-    match register::open(row, servers, drives, slots) {
-        Ok(()) => 0,
-        Err(refusal) => refusal.number(),
-    }
+    let z = Sizes::new(servers, drives, slots);
+    register::open(row, z).err().map_or(0, Refusal::number)
 }
 
 // Takes the step of a record. A record that cannot be read is refused, and the room is left alone.
@@ -93,10 +77,7 @@ pub extern "C" fn register_step(room: &mut [u32], bytes: &[u8]) -> u64
     ensures { (result ≡ packed_answer (record_answered room.old (reading_of bytes.now)))
         × (room.new ≡ record_stepped room.old (reading_of bytes.now)) }
 {
-    match register::read_record(bytes) {
-        Ok((step, _)) => answer_word(register::step(room, step)),
-        Err(refusal) => answer_word(Err(refusal)),
-    }
+    answer_word(take_record(room, bytes))
 }
 
 // The lowest slot that is free for a server, or the refusal.
@@ -104,7 +85,7 @@ pub extern "C" fn register_step(room: &mut [u32], bytes: &[u8]) -> u64
 pub extern "C" fn register_ask(room: &[u32], server: u32) -> u64
     ensures { result ≡ packed_number (asked room.now server) }
 {
-    word(register::ask(room, server).map(|slot| slot as u64))
+    word(register::ask(room, server).map(u64::from))
 }
 
 // Offers a command in a slot that is free for the server.
@@ -123,7 +104,7 @@ pub extern "C" fn register_catalogue(room: &[u32], server: u32, cells: &mut [u32
         × (cells.new ≡ catalogue_cells room.now server cells.old) }
 {
     let counts = register::catalogue(room, server, cells);
-    word(counts.map(|c| (c.taken as u64) * 256 + (c.skipped as u64)))
+    word(counts.map(|c| u64::from(c.taken) * 256 + u64::from(c.skipped)))
 }
 
 // Reads a record and stores its kind and fields in six cells, 0 for a field that the kind lacks: the length used, or the
@@ -133,16 +114,7 @@ pub extern "C" fn register_fields(bytes: &[u8], fields: &mut [u32]) -> u64
     ensures answer { result ≡ packed_reading (fields_reading bytes.now fields.old) }
     ensures cells { fields.new ≡ fields_read (fields_reading bytes.now fields.old) fields.old }
 {
-    if fields.len() != 6 {
-        return word(Err(Refusal::WrongLength));
-    }
-    match register::read_fields(bytes) {
-        Ok((f, used)) => {
-            store_fields(fields, f);
-            used as u64
-        }
-        Err(refusal) => word(Err(refusal)),
-    }
+    word(store_fields(bytes, fields))
 }
 
 // Reads a record: the length used, or the refusal.
@@ -168,28 +140,37 @@ pub extern "C" fn register_write(
     ensures answer { result ≡ packed_number (writing_from (fields kind server slot drive other number) bytes.old) }
     ensures bytes { bytes.new ≡ written_from (fields kind server slot drive other number) bytes.old }
 {
-    let f = Fields {
-        kind,
-        server,
-        slot,
-        drive,
-        other,
-        number,
-    };
+    let f = Fields::new(kind, server, slot, drive, other, number);
     word(register::write_fields(f, bytes).map(|used| used as u64))
 }
 
-// The kind and the fields, each in its cell.
-fn store_fields(cells: &mut [u32], f: Fields)
-    requires { length cells.old ≡ 6 }
-    ensures { cells.new ≡ field_cells f }
+// What the step of a record answers. `?` hands a refusal on, and not `and_then`, since a closure that takes the step would
+// leave nothing known of the room.
+fn take_record(room: &mut [u32], bytes: &[u8]) -> Result<Answer, Refusal>
+    ensures answer { result ≡ record_answered room.old (reading_of bytes.now) }
+    ensures cells { room.new ≡ record_stepped room.old (reading_of bytes.now) }
 {
-    cells[0] = f.kind as u32;
-    cells[1] = f.server as u32;
-    cells[2] = f.slot as u32;
-    cells[3] = f.drive as u32;
-    cells[4] = f.other as u32;
-    cells[5] = f.number;
+    let (step, _) = register::read_record(bytes)?;
+    register::step(room, step)
+}
+
+// Stores the kind and the fields of a record, each in its cell, and answers the length used. Cell by cell and no From: C alone
+// asks for six cells in this order.
+fn store_fields(bytes: &[u8], fields: &mut [u32]) -> Result<u64, Refusal>
+    ensures answer { packed_number result ≡ packed_reading (fields_reading bytes.now fields.old) }
+    ensures cells { fields.new ≡ fields_read (fields_reading bytes.now fields.old) fields.old }
+{
+    let cells = fields.as_mut_array::<6>().ok_or(Refusal::WrongLength)?;
+    let (f, used) = register::read_fields(bytes)?;
+    *cells = [
+        f.kind.into(),
+        f.server.into(),
+        f.slot.into(),
+        f.drive.into(),
+        f.other.into(),
+        f.number,
+    ];
+    Ok(used as u64)
 }
 
 // A step's answer: its word and its number.
@@ -203,15 +184,12 @@ fn answer_word(answered: Result<Answer, Refusal>) -> u64
 fn word(answer: Result<u64, Refusal>) -> u64
     ensures { result ≡ packed_by (λ n. n) answer }
 {
-    match answer {
-        Ok(number) => number,
-        Err(refusal) => pack(REFUSED, refusal.number()),
-    }
+    answer.unwrap_or_else(|refusal| answer_word(Err(refusal)))
 }
 
 // The word in the upper half, the number in the lower.
 fn pack(word: u32, number: u32) -> u64
     ensures { result ≡ packed word number }
 {
-    (word as u64) * 4294967296 + (number as u64)
+    u64::from(word) * (1 << 32) + u64::from(number)
 }

@@ -36,6 +36,18 @@ adds_line {old} {new} {line} {most} p h k m =
       same_reference = p.same_reference;
     }
 
+-- lines behind no text are the text
+pub only_lines
+    : {old new : Transcript} {lines : List ℕ} {most : ℕ} → Adds old lines new most → old.length ≡ 0 → most ≤ length old.buffer.now
+    → Holds new.buffer.now new.length lines
+only_lines {old} {new} {lines} {most} a none room =
+    let within : new.length ≤ length new.buffer.now = omega (arith, a.few, a.size) in
+    record {
+      within = within;
+      contents = a.contents ∙ ap (λ (n : ℕ). take n old.buffer.now ++ lines) none;
+      whole = sym (length-take-le new.length new.buffer.now within);
+    }
+
 -- nothing added, and one text after another
 pub adds_none : (t : Transcript) (most : ℕ) → Adds t [] t most
 adds_none t most = record { contents = sym (append-nil (take t.length t.buffer.now)); few = omega arith; size = refl; same_reference = refl }
@@ -52,17 +64,6 @@ adds_then {s} {t} {u} {a} {b} {x} {y} p q =
 
 pub adds_more : {s t : Transcript} {a : List ℕ} {x y : ℕ} → x ≤ y → Adds s a t x → Adds s a t y
 adds_more h a = record { contents = a.contents; few = omega (arith, a.few); size = a.size; same_reference = a.same_reference }
-
-pub holds : (l : List ℕ) (n : ℕ) (text : List ℕ) → n ≤ length l → take n l ≡ text → Holds l n text
-holds l n text h e = record { within = h; contents = e; whole = sym (length-take-le n l h) }
-
--- lines behind no text are the text
-pub only_lines
-    : {old new : Transcript} {lines : List ℕ} {most : ℕ} → Adds old lines new most → old.length ≡ 0 → most ≤ length old.buffer.now
-    → Holds new.buffer.now new.length lines
-only_lines {old} {new} {lines} {most} a none room =
-    holds new.buffer.now new.length lines (omega (arith, a.few, a.size))
-    (a.contents ∙ ap (λ (n : ℕ). take n old.buffer.now ++ lines) none)
 
 -- the lines of the servers, one after the other
 pub no_servers : (room : List ℕ) (t : Transcript) → Adds t (server_lines room 0) t (line_max * 0)

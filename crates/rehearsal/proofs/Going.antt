@@ -13,7 +13,7 @@ use Rattle.room.specs.Step.{answered, stepped}
 use Rattle.transcript.specs.Lines.{line_max, step_line, Prints}
 use Rattle.transcript.specs.declared.Transcript.{Transcript}
 use Rattle.rehearsal.specs.Script.{Between, Unread, Script, ended, before, script, NextRecord}
-use Rattle.rehearsal.specs.Rehearsal.{record_lines, room_after}
+use Rattle.rehearsal.specs.Rehearsal.{Takes, record_lines, room_after}
 use Rattle.rehearsal.specs.Buffer.{record_max, step_max, Adds, HasLeft}
 use Rattle.rehearsal.proofs.TextLaws.{step_short, lines_none, lines_stop, lines_more, room_none, room_more}
 use Rattle.rehearsal.proofs.BufferLaws.{adds_line}
@@ -96,26 +96,22 @@ module _
         same_reference = a.same_reference ∙ g.same_reference;
       }
 
-  -- the same in the code's own terms: what the iterator gave, and what was printed for it
-  module _
-      {rest' room' : List ℕ} {text' : Transcript} {r : Result Step Refusal} {a : Answered} {i j : ℕ} (short : length records ≤ 2 * record_max)
-      (wide : HasLeft start (step_max * record_max + line_max)) (less : most_of rest' < most_of rest)
-      (next : NextRecord rest (Some r) rest') (at : i ≡ index) (on : j ≡ index + 1) (fits : number_of a < 2 ^ 32)
-      (p : Prints text (step_line i a) text') where
-    pub took : {st : Step} → r ≡ Ok st → (a ≡ answered room st) × (room' ≡ stepped room st) → Going records first start rest' room' text' j
-    took {st} e s =
-        let N : Result Step Refusal → Type 0 = λ q. NextRecord rest (Some q) rest' in
-        let L : Answered → Type 0 = λ b. Adds text (step_line index b) text' step_max in
-        let G : List ℕ → ℕ → Type 0 = λ c n. Going records first start rest' c text' n in
-        subst (λ n. G room' n) (sym on) (subst (λ c. G c (index + 1)) (sym s.1) (goes_on st (subst N e next) less (subst L s.0 (line text' a at short wide fits p))))
-
-    pub told : {n : Refusal} → r ≡ Err n → a ≡ Err n → room' ≡ room → Going records first start rest' room' text' j
-    told {n} e s same =
-        let N : Result Step Refusal → Type 0 = λ q. NextRecord rest (Some q) rest' in
-        let L : Answered → Type 0 = λ b. Adds text (step_line index b) text' step_max in
-        let G : List ℕ → ℕ → Type 0 = λ c n. Going records first start rest' c text' n in
-        let stop = subst N e next in
-        subst (λ n. G room' n) (sym on) (subst (λ c. G c (index + 1)) (sym same) (stops n stop.0 stop.1 less (subst L s (line text' a at short wide fits p))))
+  -- the same in the code's own terms: what the iterator gave, what it made of the room, and what was printed for it
+  pub turn
+      : {rest' room' : List ℕ} {text' : Transcript} {i j : ℕ} (r : Result Step Refusal) (a : Answered) → length records ≤ 2 * record_max
+      → HasLeft start (step_max * record_max + line_max) → most_of rest' < most_of rest → NextRecord rest (Some r) rest' → i ≡ index
+      → j ≡ index + 1 → number_of a < 2 ^ 32 → Takes room r a room' → Prints text (step_line i a) text'
+      → Going records first start rest' room' text' j
+  turn {rest'} {room'} {text'} {i} (Ok st) a short wide less next at on fits took p =
+      let L : Answered → Type 0 = λ b. Adds text (step_line index b) text' step_max in
+      let G : List ℕ → ℕ → Type 0 = λ c n. Going records first start rest' c text' n in
+      subst (G room') (sym on)
+      (subst (λ c. G c (index + 1)) (sym took.1) (goes_on st next less (subst L took.0 (line text' a at short wide fits p))))
+  turn {rest'} {room'} {text'} {i} (Err n) a short wide less next at on fits took p =
+      let L : Answered → Type 0 = λ b. Adds text (step_line index b) text' step_max in
+      let G : List ℕ → ℕ → Type 0 = λ c n. Going records first start rest' c text' n in
+      subst (G room') (sym on)
+      (subst (λ c. G c (index + 1)) (sym took.1) (stops n next.0 next.1 less (subst L took.0 (line text' a at short wide fits p))))
 
   -- no record is left
   module _ (here : script rest ≡ ended Between) where

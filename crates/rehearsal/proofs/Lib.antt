@@ -1,4 +1,5 @@
 -- Laws of scripts, texts and buffers; the sample; the list of commands behind the servers' lines.
+pub mod ReadLaws
 pub mod ScriptLaws
 pub mod TextLaws
 pub mod BufferLaws

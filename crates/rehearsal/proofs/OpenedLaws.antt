@@ -21,16 +21,14 @@ use Rattle.transcript.specs.declared.Transcript.{Transcript}
 use Rattle.transcript.proofs.LineLaws.{open_max}
 use Rattle.rehearsal.specs.Script.{Script, script}
 use Rattle.rehearsal.specs.Rehearsal.{record_lines, room_after, server_lines, run_text, input_max, rehearsal}
-use Rattle.rehearsal.specs.Buffer.{Holds, record_max, step_max, text_max, HasLeft, Adds}
-use Rattle.rehearsal.proofs.BufferLaws.{adds_line, adds_more, only_lines}
+use Rattle.rehearsal.specs.Buffer.{record_max, step_max, text_max, HasLeft, Adds}
+use Rattle.rehearsal.proofs.BufferLaws.{adds_line, adds_more}
 
--- a line that is the whole text
-pub only_line
-    : {start text : Transcript} {k : ℕ} (n : ℕ) → k ≡ n → n < 2 ^ 32 → start.length ≡ 0 → text_max ≤ length start.buffer.now
-    → Prints start (open_line k) text → Holds text.buffer.now text.length (open_line n)
-only_line {start} {text} n is fits none room p =
-    let q = subst (λ (m : ℕ). Prints start (open_line m) text) is p in
-    only_lines (adds_line q (omega (arith, none)) (open_max n fits) (omega arith)) none (omega arith)
+-- one line, of a refusal
+one_line
+    : {start text : Transcript} (k : ℕ) → k < 2 ^ 32 → HasLeft start text_max → Prints start (open_line k) text
+    → Adds start (open_line k) text text_max
+one_line k fits room p = adds_more (omega arith) (adds_line p (omega arith) (open_max k fits) (omega arith))
 
 module _ (z : Sizes) (row : List ℕ) where
   pub opened_fits : opening z row ≡ Ok tt → sizes_fit z ≡ true
@@ -74,8 +72,7 @@ module _ (z : Sizes) (row : List ℕ) where
       let whole = record_lines 0 (opened_cells z) s ++ server_lines (room_after (opened_cells z) s) z.servers in
       let text_is : open_line k ≡ run_text z s =
       ap open_line (sym one) ∙ sym (ap (λ (b : Bool). cond b whole (open_line 1)) is.0) in
-      subst (λ (l : List ℕ). Adds start l text text_max) text_is
-      (adds_more (omega arith) (adds_line p (omega arith) (open_max k (omega arith)) (omega arith)))
+      subst (λ (l : List ℕ). Adds start l text text_max) text_is (one_line k (omega arith) room p)
 
 -- the text of an input that is too short, too long, or neither
 module _ (input : List ℕ) where
@@ -83,19 +80,35 @@ module _ (input : List ℕ) where
   unfolding rehearsal
   too_short h = simp (lt-ltb (length input) 3 h)
 
-  pub too_long : 3 ≤ length input → input_max < length input → rehearsal input ≡ open_line 2
+  pub too_long : input_max < length input → rehearsal input ≡ open_line 2
   unfolding rehearsal
-  too_long h k = simp (le-ltb (length input) 3 h, lt-ltb input_max (length input) k)
+  too_long k = simp (le-ltb (length input) 3 (omega arith), lt-ltb input_max (length input) k)
 
-  pub just_right
+  just_right
       : 3 ≤ length input → length input ≤ input_max → rehearsal input ≡ run_text (sizes_of input) (script (drop 3 input))
   unfolding rehearsal
   just_right h k = simp (le-ltb (length input) 3 h, le-ltb input_max (length input) k)
 
-  -- the same of the parts that the code takes an input apart into
-  pub taken_apart
-      : (z : Sizes) {records : List ℕ} → z.servers ≡ get_or input 0 0 → z.drives ≡ get_or input 1 0 → z.slots ≡ get_or input 2 0
-      → records ≡ drop 3 input → 3 ≤ length input → length input ≤ input_max → run_text z (script records) ≡ rehearsal input
-  taken_apart z a b d r h k =
-      let z_is : z ≡ sizes_of input = λ i. record { servers = a i; drives = b i; slots = d i } in
-      ap₂ (λ (y : Sizes) (l : List ℕ). run_text y (script l)) z_is r ∙ sym (just_right h k)
+  -- the same of what the code puts behind a text
+  module _ {start text : Transcript} where
+    pub long_told
+        : {k : ℕ} → input_max < length input → HasLeft start text_max → k ≡ 2 → Prints start (open_line k) text
+        → Adds start (rehearsal input) text text_max
+    long_told {k} h room is p =
+        subst (λ (l : List ℕ). Adds start l text text_max) (ap open_line is ∙ sym (too_long h)) (one_line k (omega arith) room p)
+
+    pub short_told
+        : {k : ℕ} → length input < 3 → HasLeft start text_max → k ≡ 14 → Prints start (open_line k) text
+        → Adds start (rehearsal input) text text_max
+    short_told {k} h room is p =
+        subst (λ (l : List ℕ). Adds start l text text_max) (ap open_line is ∙ sym (too_short h)) (one_line k (omega arith) room p)
+
+    -- and of the parts that it takes the input apart into
+    pub taken_apart
+        : (z : Sizes) {records : List ℕ} → z.servers ≡ get_or input 0 0 → z.drives ≡ get_or input 1 0 → z.slots ≡ get_or input 2 0
+        → records ≡ drop 3 input → 3 ≤ length input → length input ≤ input_max → Adds start (run_text z (script records)) text text_max
+        → Adds start (rehearsal input) text text_max
+    taken_apart z a b d r h k ran =
+        let z_is : z ≡ sizes_of input = λ i. record { servers = a i; drives = b i; slots = d i } in
+        subst (λ (l : List ℕ). Adds start l text text_max)
+        (ap₂ (λ (y : Sizes) (l : List ℕ). run_text y (script l)) z_is r ∙ sym (just_right h k)) ran

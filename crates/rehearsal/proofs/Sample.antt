@@ -1,6 +1,5 @@
 -- 01's sample: what is printed for its bytes, and for inputs without a room, by computing every definition.
 use Prim.Native.Nat.{ℕ, ◌<◌}
-use native.Mathlib.Omega.{arith}
 use mathlib.Core.List.{List, [], ◌∷◌}
 use mathlib.Core.Path.{◌≡◌, refl}
 use lib.ListN.{length}
@@ -15,10 +14,10 @@ use Rattle.synod.specs.Changes.{meeting, marking, topping, recalling, rejoining,
 use Rattle.checks.specs.Checks.{must}
 use Rattle.synod.specs.Rules.{rule_of, bid_rule, finish_rule, offer_rule, outbid_rule, read_rule, recall_rule, rejoin_rule, write_rule}
 use Rattle.layout.specs.Places.{slot_length, room_length, slot_at, server_at, nth_block_at, block_at, sizes_fit}
-use Rattle.layout.specs.Cells.{server_of, put_server, block_of, put_block}
-use Rattle.range.specs.Range.{legal_drives, legal_reads, value_fits, numbers_fit, server_fits, block_fits, servers_fit, blocks_fit, slot_fits, cells_fit, in_range}
+use Rattle.layout.specs.Cells.{is_row, server_of, put_server, block_of, put_block}
+use Rattle.range.specs.Range.{legal_drives, legal_reads, value_fits, numbers_fit, server_fits, block_fits, servers_fit, blocks_fit, slot_fits, room_fits, in_range}
 use Rattle.room.specs.Open.{opened_cells}
-use Rattle.room.specs.Judge.{effect_of, step_checks, judged}
+use Rattle.room.specs.Judge.{effect_of, step_rule, judged}
 use Rattle.room.specs.Step.{failed_below, settled, answered, stepped}
 use Rattle.record.specs.Fields.{mask_of, step_of}
 use Rattle.record.specs.Map.{fields_length, record_length, asks_more, malformed, zero_among}
@@ -44,9 +43,9 @@ unfolding ones ones_in
     places_fit command_fits
     meeting marking topping recalling rejoining bidding writing reading proposing agreeing
     must offer_rule recall_rule rejoin_rule bid_rule write_rule outbid_rule read_rule finish_rule
-    slot_length room_length slot_at server_at nth_block_at block_at sizes_fit server_of put_server block_of put_block
-    legal_drives legal_reads value_fits numbers_fit server_fits block_fits servers_fit blocks_fit slot_fits cells_fit in_range
-    opened_cells step_checks effect_of rule_of judged failed_below settled answered stepped
+    slot_length room_length slot_at server_at nth_block_at block_at sizes_fit is_row server_of put_server block_of put_block
+    legal_drives legal_reads value_fits numbers_fit server_fits block_fits servers_fit blocks_fit slot_fits room_fits in_range
+    opened_cells step_rule effect_of rule_of judged failed_below settled answered stepped
     mask_of step_of fields_length record_length asks_more malformed zero_among low_number values_at read_checks reading_of
     all_steps ran applies entry cells_after skipped_by folded output_at leading outputs_of entries_of catalogue_checks catalogue_of
     digits_in digits step_line server_line open_line
@@ -60,7 +59,7 @@ no_byte = refl
 
 pub too_many : (input : List ℕ) → input_max < length input → rehearsal input ≡ codes "open refused 2\n"
 unfolding digits_in digits open_line
-too_many input h = too_long input (omega arith) h
+too_many input h = too_long input h
 
 pub bad_sizes : rehearsal (0 ∷ 1 ∷ 1 ∷ []) ≡ codes "open refused 1\n"
 unfolding sizes_fit digits_in digits open_line rehearsal run_text

@@ -1,4 +1,5 @@
--- The steps that an input holds, and the text that rehearse prints for it.
+-- The steps that an input holds, the text that rehearse prints for it, and what is read and written.
 pub mod Script
 pub mod Rehearsal
 pub mod Buffer
+pub mod Output

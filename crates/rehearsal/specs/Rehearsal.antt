@@ -1,8 +1,9 @@
 -- What the program rehearse prints (SPEC, "Step records").
-use Rattle.std.specs.Prelude.{ℕ, zero, suc, ◌+◌, cond, List, [], ◌∷◌, ◌++◌, length, drop, replicate, ltb, Result, Err}
+use Rattle.std.specs.Prelude.{ℕ, zero, suc, ◌+◌, ◌≡◌, cond, List, [], ◌∷◌, ◌++◌, length, drop, replicate, ltb, Result, Err, MatchResult}
 use Rattle.checks.specs.declared.Refusal.{Refusal}
 use Rattle.state.specs.declared.Sizes.{Sizes}
 use Rattle.state.specs.declared.Step.{Step}
+use Rattle.state.specs.Answers.{Answered}
 use Rattle.layout.specs.Places.{sizes_fit}
 use Rattle.layout.specs.Cells.{sizes_of}
 use Rattle.room.specs.Open.{opened_cells}
@@ -15,6 +16,11 @@ use Rattle.catalogue.specs.Listing.{taken_of, skipped_of}
 use Rattle.catalogue.specs.Call.{catalogue_of}
 use Rattle.transcript.specs.Lines.{step_line, server_line, open_line}
 use Rattle.rehearsal.specs.Script.{Ending, Between, Unread, Script, script}
+
+-- a record taken in a room: what its step answers and makes of the room, or why it can't be read
+abbrev pub Takes : List ℕ → Result Step Refusal → Answered → List ℕ → Type 0
+Takes old read answer new =
+    MatchResult read (λ st. (answer ≡ answered old st) × (new ≡ stepped old st)) (λ n. (answer ≡ Err n) × (new ≡ old))
 
 -- the lines of the steps that are taken from a room on, by their answers
 unfoldable pub step_lines : ℕ → List ℕ → List Step → List ℕ

@@ -1,19 +1,21 @@
 // An input, read from a file or a pipe.
-ghost use Rattle.std.specs.Prelude.{◌≤◌, length};
+ghost use Rattle.std.specs.Io.KnownBytes.{Consumes};
 
 use std::io::Read;
 
-// Reads until the buffer is full, the input ends or a read fails, and answers how many bytes it put at the start. The
-// count stays, since a read answers how far it came.
-pub fn read_full(from: &mut impl Read, buffer: &mut [u8]) -> usize
-    ensures { result ≤ length buffer.new }
+// Reads until the buffer is full, the input ends or a read fails, and answers the bytes that were read, at the buffer's
+// start. The count stays, since a read answers how far it came; one that fails ends the input, as one of no bytes does.
+#[tactic(auto, using(crate::proofs::ReadLaws::within, crate::proofs::ReadLaws::filled))]
+pub fn read_full<'a, R: Read>(from: &mut R, buffer: &'a mut [u8]) -> &'a [u8]
+    ensures { Consumes (R.remaining from.old) (R.remaining from.new) result.now }
 {
     let mut done = 0;
     while done < buffer.len() {
-        match from.read(&mut buffer[done..]) {
-            Ok(n) if n > 0 => done += n,
-            _ => break,
+        let n = from.read(&mut buffer[done..]).unwrap_or(0);
+        if n == 0 {
+            break;
         }
+        done += n;
     }
-    done
+    &buffer[..done]
 }

@@ -1,20 +1,22 @@
-// What the program rehearse prints for an input, put into lent bytes.
+// What the program rehearse prints for an input, put into lent bytes, and the program's work from input to output.
 #![tactic(auto)]
 
 mod input;
 mod records;
 
-ghost use Rattle.std.specs.Prelude.{◌≡◌, ◌+◌, ◌*◌, ◌≤◌, length};
+ghost use Rattle.std.specs.Prelude.{◌≡◌, ◌+◌, ◌*◌, ◌≤◌, length, OnOk};
 ghost use Rattle.transcript.specs.Lines.{line_max};
-ghost use Rattle.layout.specs.Places.{longest_room};
 ghost use Rattle.rehearsal.specs.Script.{script};
-ghost use Rattle.rehearsal.specs.Rehearsal.{record_lines, room_after, line_of, server_lines, run_text, rehearsal};
+ghost use Rattle.rehearsal.specs.Rehearsal.{Takes, record_lines, room_after, line_of, server_lines, run_text, rehearsal};
 ghost use Rattle.rehearsal.specs.Buffer.{Holds, record_max, step_max, text_max, Adds, HasLeft};
+ghost use Rattle.rehearsal.specs.Output.{Rehearses};
 
-pub use input::read_full;
+use input::read_full;
 use records::Records;
-use register::{Counts, Refusal};
+use register::{Answer, Refusal, Step};
 use state::Sizes;
+use std::io;
+use std::io::{Read, Write};
 use transcript::Transcript;
 
 // The most bytes that an input may have.
@@ -28,35 +30,61 @@ const STEP_MAX: usize = 27;
 // The bytes of the longest text: the lines of the records and of four servers.
 pub const TEXT_MAX: usize = STEP_MAX * RECORDS_MAX + 4 * transcript::LINE_MAX;
 
-// Puts the text for an input at the start of out and answers its length.
+// Reads an input, up to its end or a read that fails, and writes its text in one piece. Memory is fixed: input, room and
+// text are arrays.
+pub fn rehearse_from<R: Read, W: Write>(from: &mut R, to: &mut W) -> io::Result<()>
+    ensures { OnOk result (Rehearses (R.remaining from.old) (R.remaining from.new)
+        (W.contents to.old) (W.contents to.new)) }
+{
+    let mut buffer = [0u8; INPUT_MAX + 1];
+    let input = read_full(from, &mut buffer);
+    if INPUT_MAX < input.len() {
+        // What is left of an input that is too long is read too, so that whoever writes it can end.
+        let _ = io::copy(from, &mut io::sink());
+    }
+    let mut room = [0u32; CELLS_MAX];
+    let mut out = [0u8; TEXT_MAX];
+    let length = rehearse(input, &mut room, &mut out);
+    to.write_all(&out[..length])
+}
+
+// Puts the text for an input at the start of out and answers its length. Tried with the text itself as the answer, a part of
+// out: nothing is then known of out when the call is over.
+#[tactic(auto, using(crate::proofs::BufferLaws::only_lines))]
 pub fn rehearse(input: &[u8], cells: &mut [u32; CELLS_MAX], out: &mut [u8; TEXT_MAX]) -> usize
     ensures { Holds out.new result (rehearsal input.now) }
 {
     let mut text = Transcript::new(out);
-    if INPUT_MAX < input.len() {
-        text.open_line(Refusal::WrongLength.number());
-        return text.length;
-    }
-    let [servers, drives, slots, records @ ..] = input else {
-        text.open_line(Refusal::CutShort.number());
-        return text.length;
-    };
-    let z = Sizes {
-        servers: u32::from(*servers),
-        drives: u32::from(*drives),
-        slots: u32::from(*slots),
-    };
-    run(z, records, cells, &mut text);
+    put_text(input, cells, &mut text);
     text.length
 }
 
+// Puts the whole text behind what is there. An input that is too long, and one without its three sizes, has one line. The
+// room and the text stay two parameters, here and below: the steps write both, and the servers' lines only look at the
+// room. What has to be left in the text differs from function to function, so it is a clause of each.
+#[tactic(auto, using(crate::proofs::OpenedLaws::taken_apart, crate::proofs::ScriptLaws::to_end))]
+fn put_text(input: &[u8], cells: &mut [u32; CELLS_MAX], text: &mut Transcript)
+    requires { HasLeft text.old text_max }
+    ensures { Adds text.old (rehearsal input.now) text.new text_max }
+{
+    match input {
+        _ if INPUT_MAX < input.len() => text.open_line(Refusal::WrongLength.number()),
+        [servers, drives, slots, records @ ..] => {
+            let z = Sizes::new((*servers).into(), (*drives).into(), (*slots).into());
+            run(z, records, cells, text);
+        }
+        _ => text.open_line(Refusal::CutShort.number()),
+    }
+}
+
 // The run of a room, which is the part of cells that is exactly as long: the lines of the records and of the servers.
-fn run(z: Sizes, records: &[u8], cells: &mut [u32], text: &mut Transcript)
-    requires { (length records.now ≤ 2 * record_max) × (length cells.old ≡ longest_room) × HasLeft text.old text_max }
+#[tactic(auto, using(crate::proofs::OpenedLaws::opened_fits, layout::proofs::PlaceLaws::fit_of))]
+fn run(z: Sizes, records: &[u8], cells: &mut [u32; CELLS_MAX], text: &mut Transcript)
+    requires { (length records.now ≤ 2 * record_max) × HasLeft text.old text_max }
     ensures { Adds text.old (run_text z (script records.now)) text.new text_max }
 {
     let room = &mut cells[..layout::length_of(z)];
-    match register::open(room, z.servers, z.drives, z.slots) {
+    match register::open(room, z) {
         Ok(()) => {
             steps(records, room, text);
             servers(z.servers, room, text);
@@ -65,20 +93,25 @@ fn run(z: Sizes, records: &[u8], cells: &mut [u32], text: &mut Transcript)
     }
 }
 
-// Takes the steps of the records, a line for each, until the input ends or a record can't be read. The room and the text
-// stay two parameters, here and below: the steps write both, and the servers' lines only look at the room.
+// Takes the steps of the records, a line for each, until the input ends or a record can't be read.
+#[tactic(auto, using(crate::proofs::Going::all_lines, crate::proofs::Going::last_room))]
 fn steps(records: &[u8], room: &mut [u32], text: &mut Transcript)
     requires { (length records.now ≤ 2 * record_max) × HasLeft text.old (step_max * record_max + line_max) }
     ensures lines { Adds text.old (record_lines 0 room.old (script records.now)) text.new (step_max * record_max) }
     ensures room { room.new ≡ room_after room.old (script records.now) }
 {
     for (index, record) in Records(records).enumerate() {
-        let answer = match record {
-            Ok(step) => register::step(room, step),
-            Err(refusal) => Err(refusal),
-        };
-        text.step_line(index as u32, answer);
+        // `as` keeps the number: there are fewer than 65,536 records.
+        text.step_line(index as u32, answer_of(record, room));
     }
+}
+
+// What a record answers: what its step does, or why it can't be read. `?` hands the refusal on, and not `and_then`, since a
+// closure that takes the step would leave nothing known of the room.
+fn answer_of(read: Result<Step, Refusal>, room: &mut [u32]) -> Result<Answer, Refusal>
+    ensures { Takes room.old read result room.new }
+{
+    register::step(room, read?)
 }
 
 // A line for each of the first servers: the two counts of its catalogue.
@@ -92,15 +125,12 @@ fn servers(count: u32, room: &[u32], text: &mut Transcript)
     }
 }
 
-// The cells of the catalogue are an array, since memory is fixed.
+// The line of one server. The cells of its catalogue are an array, since memory is fixed.
 fn server(p: u32, room: &[u32], text: &mut Transcript)
     requires { HasLeft text.old line_max }
     ensures { Adds text.old (line_of room.now p) text.new line_max }
 {
     let mut pieces = [0u32; catalogue::PIECES];
-    let counts = register::catalogue(room, p, &mut pieces).unwrap_or(Counts {
-        taken: 0,
-        skipped: 0,
-    });
+    let counts = register::catalogue(room, p, &mut pieces).unwrap_or_default();
     text.server_line(p, counts.taken, counts.skipped);
 }

@@ -17,6 +17,7 @@ impl<'a> Iterator for Records<'a> {
     // A record has two bytes at least, and one byte that is left is a record that can't be read.
     ghost remaining = { λ s. at_most ((length s.0.now + 1) / 2) };
 
+    #[tactic(auto, using(crate::proofs::ScriptLaws::script_none, crate::proofs::ScriptLaws::script_empty, crate::proofs::ScriptLaws::script_behind, crate::proofs::ScriptLaws::script_stop, record::proofs::Accepted::used_bounds))]
     fn next(&mut self) -> Option<Result<Step, Refusal>> {
         if self.0.is_empty() {
             return None;

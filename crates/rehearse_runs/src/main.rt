@@ -18,16 +18,9 @@ fn main(rt: HostRuntime) -> io::Result<()> {
 }
 
 // Writes what rehearse prints for the input in a file. Where the file can't be opened, a line on standard error says why.
-// Memory is fixed, as in rehearse.
 fn run(rt: &(impl Files + Print + Eprint), name: &str) -> io::Result<()> {
-    let mut file = match File::open(rt, name) {
-        Ok(file) => file,
-        Err(error) => return eprintln!(rt; "{name}: {error}"),
-    };
-    let mut input = [0u8; rehearsal::INPUT_MAX + 1];
-    let length = rehearsal::read_full(&mut file, &mut input);
-    let mut room = [0u32; rehearsal::CELLS_MAX];
-    let mut out = [0u8; rehearsal::TEXT_MAX];
-    let text = rehearsal::rehearse(&input[..length], &mut room, &mut out);
-    rt.write_all(&out[..text])
+    match File::open(rt, name) {
+        Ok(mut file) => rehearsal::rehearse_from(&mut file, &mut io::writer(rt)),
+        Err(error) => eprintln!(rt; "{name}: {error}"),
+    }
 }

@@ -13,27 +13,27 @@ use Rattle.synod.specs.Arguments.{places_fit, command_fits}
 use Rattle.layout.specs.Cells.{sizes_of, limits_of}
 use Rattle.range.specs.Range.{in_range}
 use Rattle.room.specs.declared.effect.Effect.{Effect}
-use Rattle.room.specs.Judge.{effect_of, step_checks, judged}
+use Rattle.room.specs.Judge.{effect_of, step_rule, judged}
 
 module _ (r : List ℕ) (st : Step) where
   pub refused_3 : in_range r ≡ false → judged r st ≡ Err OutOfRange
-  unfolding judged step_checks must
+  unfolding judged step_rule must
   refused_3 a = simp a
 
   pub refused_4 : in_range r ≡ true → places_fit (sizes_of r) st ≡ false → judged r st ≡ Err BeyondRoom
-  unfolding judged step_checks must
+  unfolding judged step_rule must
   refused_4 a b = simp (a, b)
 
   pub refused_5
       : in_range r ≡ true → places_fit (sizes_of r) st ≡ true → command_fits (limits_of r) st ≡ false
       → judged r st ≡ Err NoCommand
-  unfolding judged step_checks must
+  unfolding judged step_rule must
   refused_5 a b c = simp (a, b, c)
 
   pub passed
       : in_range r ≡ true → places_fit (sizes_of r) st ≡ true → command_fits (limits_of r) st ≡ true
       → judged r st ≡ effect_of (sizes_of r) r st
-  unfolding judged effect_of step_checks must
+  unfolding judged effect_of step_rule must
   passed a b c = simp (a, b, c)
 
   -- what holds of the three refusals, and of the rule where the checks pass, holds of the judgement

@@ -46,15 +46,15 @@ unfoldable pub effect_of : Sizes → List ℕ → Step → Result Effect Refusal
 effect_of z cells st = mapped (effect_by cells st) (ruling (rule_at z cells st))
 
 -- the room, the places and the command, then the rule
-unfoldable pub step_checks : List ℕ → Step → Rule
-step_checks cells step =
+unfoldable pub step_rule : List ℕ → Step → Rule
+step_rule cells step =
     Must (in_range cells) OutOfRange
     (Must (places_fit (sizes_of cells) step) BeyondRoom
     (Must (command_fits (limits_of cells) step) NoCommand
     (rule_at (sizes_of cells) cells step)))
 
 unfoldable pub judged : List ℕ → Step → Result Effect Refusal
-judged cells step = mapped (effect_by cells step) (outcome (step_checks cells step))
+judged cells step = mapped (effect_by cells step) (outcome (step_rule cells step))
 
 -- the answer that goes with an effect
 abbrev pub answer_of : Effect → Answer

@@ -1,10 +1,12 @@
 // What a step would answer and store.
-ghost use Rattle.std.specs.Prelude.{◌≡◌, true};
+ghost use Rattle.std.specs.Prelude.{◌≡◌, ◌<◌, true};
 ghost use Rattle.synod.specs.Arguments.{places_fit};
 ghost use Rattle.checks.specs.Checks.{mapped};
+ghost use Rattle.layout.specs.Cells.{off_of, server_of};
 ghost use Rattle.room.specs.Judge.{recording, effect_of, judged, answer_of};
 
 use checks::Refusal;
+use drives::Acting;
 use layout::rooms::Room;
 use quorum::{with_mark, without_mark};
 use state::{Answer, Server, Step};
@@ -45,49 +47,41 @@ impl Effect {
 }
 
 // Judges a step on a row: the room, the step's numbers, then the rule of its kind. Nothing is stored.
-#[tactic(auto, using(crate::proofs::Checks::refused_3, crate::proofs::Checks::refused_4, crate::proofs::Checks::refused_5, crate::proofs::Checks::passed, range::proofs::Laws::ranged_row))]
+#[tactic(auto, using(crate::proofs::Checks::refused_3, crate::proofs::Checks::refused_4, crate::proofs::Checks::refused_5, crate::proofs::Checks::passed))]
 pub fn judge(room: &[u32], step: Step) -> Result<Effect, Refusal>
     ensures { result ≡ judged room.now step }
 {
-    if !range::in_range(room) {
-        return Err(Refusal::OutOfRange);
-    }
-    let limits = layout::limits(room);
-    let room = Room::new(room);
+    let room = range::room_in(room)?;
     if !arguments::places_fit(room.sizes, step) {
         return Err(Refusal::BeyondRoom);
     }
-    if !arguments::command_fits(&limits, step) {
+    if !arguments::command_fits(&room.limits(), step) {
         return Err(Refusal::NoCommand);
     }
     rule(&room, step)
 }
 
-// The rule of the step's kind, on the record and the block that it names.
+// The rule of the step's kind, on the server and the block that it names. A match on the enum of steps is a form that the project
+// prescribes.
 #[tactic(auto, unfolding(crate::specs::Judge::effect_of, synod::specs::Rules::rule_of, synod::specs::Arguments::places_fit))]
 fn rule(room: &Room, step: Step) -> Result<Effect, Refusal>
     requires { places_fit room.now.sizes step ≡ true }
     ensures { result ≡ effect_of room.now.sizes room.now.cells.now step }
 {
-    let z = room.sizes;
-    let off = room.off();
     match step {
-        Step::Offer(p, s, command) => recorded(s, p, rules::offer(room.server(s, p), command)),
+        Step::Offer(p, s, command) => recorded(
+            s,
+            p,
+            rules::offer(room.server(s.into(), p.into()), command),
+        ),
         Step::Recall(p, s, d) => {
-            let v = room.server(s, p);
-            let b = room.block(s, d, p);
-            recorded(s, p, rules::recall(off, v, b, p, d))
+            let b = room.block(s.into(), d.into(), p.into());
+            recorded(s, p, rules::recall(acting(room, s, p), b, d))
         }
-        Step::Rejoin(p, s, ballot) => {
-            let v = room.server(s, p);
-            recorded(s, p, rules::rejoin(z.servers, z.drives, v, p, ballot))
-        }
-        Step::Bid(p, s, ballot) => {
-            let v = room.server(s, p);
-            recorded(s, p, rules::bid(z.servers, v, p, ballot))
-        }
+        Step::Rejoin(p, s, ballot) => recorded(s, p, rules::rejoin(acting(room, s, p), ballot)),
+        Step::Bid(p, s, ballot) => recorded(s, p, rules::bid(acting(room, s, p), ballot)),
         Step::Write(p, s, d) => {
-            let (record, _) = rules::write(off, room.server(s, p), d)?;
+            let (record, _) = rules::write(acting(room, s, p), d)?;
             Ok(Effect::Block {
                 slot: s,
                 drive: d,
@@ -96,17 +90,26 @@ fn rule(room: &Room, step: Step) -> Result<Effect, Refusal>
             })
         }
         Step::Read(p, s, d, q) => {
-            let v = room.server(s, p);
-            let b = room.block(s, d, q);
-            recorded(s, p, rules::read(z.servers, off, v, b, p, d, q))
+            let b = room.block(s.into(), d.into(), q.into());
+            recorded(s, p, rules::read(acting(room, s, p), b, d, q))
         }
-        Step::Finish(p, s) => {
-            let v = room.server(s, p);
-            recorded(s, p, rules::finish(z.servers, z.drives, v, p))
-        }
+        Step::Finish(p, s) => recorded(s, p, rules::finish(acting(room, s, p))),
         Step::Fail(p) => Ok(Effect::Failure { server: p }),
-        Step::DriveOff(d) => Ok(Effect::Off(with_mark(off, d as u32))),
-        Step::DriveOn(d) => Ok(Effect::Off(without_mark(off, d as u32))),
+        Step::DriveOff(d) => Ok(Effect::Off(with_mark(room.off(), d.into()))),
+        Step::DriveOn(d) => Ok(Effect::Off(without_mark(room.off(), d.into()))),
+    }
+}
+
+// Server p as it acts in slot s.
+fn acting(room: &Room, s: u8, p: u8) -> Acting
+    requires { (s < room.now.sizes.slots) × (p < room.now.sizes.servers) }
+    ensures { (result.record ≡ server_of room.now.sizes room.now.cells.now s p) × (result.server ≡ p) × (result.sizes ≡ room.now.sizes) × (result.off ≡ off_of room.now.cells.now) }
+{
+    Acting {
+        record: room.server(s.into(), p.into()),
+        server: p,
+        sizes: room.sizes,
+        off: room.off(),
     }
 }
 

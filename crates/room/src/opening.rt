@@ -1,33 +1,23 @@
 // Opening a room in a lent row.
 ghost use Rattle.std.specs.Prelude.{◌≡◌};
-ghost use Rattle.state.specs.Sizes.{sizes};
 ghost use Rattle.room.specs.Open.{opening, opened};
 
 use checks::Refusal;
 use layout::plan::Plan;
+use layout::stored::store_at;
 use state::Sizes;
 
 // Makes the row a room of these sizes with every cell 0 but the sizes. Refused with 1 where the sizes do not fit and
 // with 2 where the row is not exactly as long as the room; then no cell changes.
-#[tactic(auto, using(layout::proofs::PlaceLaws::base_room), unfolding(crate::specs::Open::opening, crate::specs::Open::opened, crate::specs::Open::open_checks, checks::specs::Checks::must))]
-pub fn open(row: &mut [u32], servers: u32, drives: u32, slots: u32) -> Result<(), Refusal>
-    ensures { (result ≡ opening (sizes servers drives slots) row.old)
-        × (row.new ≡ opened (sizes servers drives slots) row.old) }
+#[tactic(auto, using(layout::proofs::PlaceLaws::base_room, crate::proofs::OpenLaws::cleared_room), unfolding(crate::specs::Open::opening, crate::specs::Open::opened, crate::specs::Open::open_checks, checks::specs::Checks::must))]
+pub fn open(row: &mut [u32], z: Sizes) -> Result<(), Refusal>
+    ensures { (result ≡ opening z row.old) × (row.new ≡ opened z row.old) }
 {
-    let z = Sizes {
-        servers,
-        drives,
-        slots,
-    };
-    let Some(plan) = Plan::of(z) else {
-        return Err(Refusal::SizesUnfit);
-    };
+    let plan = Plan::of(z).ok_or(Refusal::SizesUnfit)?;
     if row.len() != plan.room_length() {
         return Err(Refusal::WrongLength);
     }
-    layout::clear(row);
-    row[0] = servers;
-    row[1] = drives;
-    row[2] = slots;
+    row.fill(0);
+    store_at(row, 0, z);
     Ok(())
 }

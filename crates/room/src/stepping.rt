@@ -32,30 +32,30 @@ fn settle(room: &mut [u32], e: Effect)
             server,
             record,
             answer: _,
-        } => room.store_server(slot, server, record),
+        } => room.store_server(slot.into(), server.into(), record),
         Effect::Block {
             slot,
             drive,
             server,
             record,
         } => {
-            room.store_server(slot, server, record);
-            room.store_block(slot, drive, server, record.own_block());
+            room.store_server(slot.into(), server.into(), record);
+            room.store_block(slot.into(), drive.into(), server.into(), record.own_block());
         }
-        Effect::Failure { server } => fail(&mut room, server),
+        Effect::Failure { server } => fail(&mut room, server.into()),
         Effect::Off(marks) => room.store_off(marks),
     }
 }
 
 // Server p fails in every slot.
 #[tactic(auto, unfolding(crate::specs::Step::failed_below))]
-fn fail(room: &mut RoomMut, p: u8)
+fn fail(room: &mut RoomMut, p: u32)
     requires { p < room.old.sizes.servers }
     ensures same_reference { room.new.cells.ghost_name ≡ room.old.cells.ghost_name }
     ensures cells { room.new.cells.now ≡ failed_below room.old.sizes p room.old.sizes.slots room.old.cells.now }
 {
     for s in 0..room.sizes.slots {
-        let v = room.as_room().server(s as u8, p).failed();
-        room.store_server(s as u8, p, v);
+        let v = room.as_room().server(s, p).failed();
+        room.store_server(s, p, v);
     }
 }

@@ -1,56 +1,64 @@
-// The rules of the algorithm on values: each takes a server's record, the block it looks at and the step's numbers,
-// and answers a refusal or the record as it becomes, with the answer.
+// The rules of the algorithm on values: each takes the server that the step names, the block it looks at and the step's
+// other numbers, and answers a refusal or the record as it becomes, with the answer.
 #![tactic(auto)]
 
 ghost use Rattle.std.specs.Prelude.{◌≡◌, max};
 ghost use Rattle.synod.specs.Changes.{meeting, bidding};
 ghost use Rattle.ballot.specs.Ballot.{next_own};
+ghost use Rattle.state.specs.Block.{command_in};
 ghost use Rattle.synod.specs.Rules.{ruling, balloting, joined, agree_rule, command_of, outbid_rule, offer_rule, recall_rule, rejoin_rule, bid_rule, write_rule, read_rule, finish_rule};
 
-use ballot::{is_own, next_own};
 use checks::Refusal;
+use drives::Acting;
 use quorum::{has_mark, is_majority, with_mark};
-use state::{Answer, Block, Server};
+use state::{Answer, Block, Server, command_in};
 use synod::Ruling;
 
-// 1 Offer, in any phase.
+// 1 Offer, in any phase. It needs the record alone.
 #[tactic(auto, unfolding(synod::specs::Rules::offer_rule))]
-pub fn offer(mut v: Server, command: u32) -> Ruling
+pub fn offer(v: Server, command: u32) -> Ruling
     ensures { result ≡ ruling (offer_rule v command) }
 {
-    v.offer = command;
-    Ok((v, Answer::Done))
+    let w = Server {
+        offer: command,
+        ..v
+    };
+    Ok((w, Answer::Done))
 }
 
-// 2 Recall, phase 0: b is server p's own block on drive d.
+// 2 Recall, phase 0: b is the server's own block on drive d.
 #[tactic(auto, unfolding(checks::specs::Checks::must, synod::specs::Rules::recall_rule, synod::specs::Changes::recalling, synod::specs::Changes::topping, synod::specs::Changes::marking))]
-pub fn recall(off: u32, v: Server, b: Block, p: u8, d: u8) -> Ruling
-    ensures { result ≡ ruling (recall_rule off v b p d) }
+pub fn recall(a: Acting, b: Block, d: u8) -> Ruling
+    ensures { result ≡ ruling (recall_rule a.off a.record b a.server d) }
 {
+    let v = a.record;
     if v.phase != 0 {
         return Err(Refusal::WrongPhase);
     }
-    if has_mark(off, d as u32) {
+    if a.has_off(d) {
         return Err(Refusal::DriveIsOff);
     }
-    let mut w = v;
-    w.read = with_mark(v.read, drives::read_bit(d as u32, p as u32));
-    w.top = v.top.max(b.mbal);
+    let w = Server {
+        read: with_mark(v.read, drives::read_bit(d, a.server)),
+        top: v.top.max(b.mbal),
+        ..v
+    };
     Ok((meet(w, b), Answer::Done))
 }
 
-// 3 Rejoin, phase 0, a majority recalled, the ballot p's and above top.
-#[tactic(auto, using(crate::proofs::Judged::judged), unfolding(checks::specs::Checks::must, synod::specs::Rules::rejoin_rule, synod::specs::Changes::rejoining))]
-pub fn rejoin(servers: u32, drives: u32, v: Server, p: u8, ballot: u32) -> Ruling
-    ensures { result ≡ ruling (rejoin_rule servers drives v p ballot) }
+// 3 Rejoin, phase 0, a majority recalled, the ballot the server's and above top.
+#[tactic(auto, using(quorum::proofs::Gathered::majority_gathered), unfolding(checks::specs::Checks::must, synod::specs::Rules::rejoin_rule, synod::specs::Changes::rejoining))]
+pub fn rejoin(a: Acting, ballot: u32) -> Ruling
+    ensures { result ≡ ruling (rejoin_rule a.sizes.servers a.sizes.drives a.record a.server ballot) }
 {
-    if !is_own(servers, p as u32, ballot) {
+    let v = a.record;
+    if !a.owner().is_own(ballot) {
         return Err(Refusal::NotOwnBallot);
     }
     if v.phase != 0 {
         return Err(Refusal::WrongPhase);
     }
-    if !is_majority(drives, drives::recalled(v, p, drives)) {
+    if !is_majority(a.sizes.drives, a.recalled()) {
         return Err(Refusal::NoMajority);
     }
     if ballot <= v.top {
@@ -62,12 +70,13 @@ pub fn rejoin(servers: u32, drives: u32, v: Server, p: u8, ballot: u32) -> Rulin
     ))
 }
 
-// 4 Bid, phase 1 or 2, the ballot p's and above the own mbal.
+// 4 Bid, phase 1 or 2, the ballot the server's and above the own mbal.
 #[tactic(auto, unfolding(checks::specs::Checks::must, synod::specs::Rules::bid_rule))]
-pub fn bid(servers: u32, v: Server, p: u8, ballot: u32) -> Ruling
-    ensures { result ≡ ruling (bid_rule servers v p ballot) }
+pub fn bid(a: Acting, ballot: u32) -> Ruling
+    ensures { result ≡ ruling (bid_rule a.sizes.servers a.record a.server ballot) }
 {
-    if !is_own(servers, p as u32, ballot) {
+    let v = a.record;
+    if !a.owner().is_own(ballot) {
         return Err(Refusal::NotOwnBallot);
     }
     if !in_ballot(v) {
@@ -81,65 +90,66 @@ pub fn bid(servers: u32, v: Server, p: u8, ballot: u32) -> Ruling
 
 // 5 Write, phase 1, 2 or 3. The block to be written is the own block.
 #[tactic(auto, unfolding(checks::specs::Checks::must, synod::specs::Rules::write_rule, synod::specs::Changes::writing))]
-pub fn write(off: u32, v: Server, d: u8) -> Ruling
-    ensures { result ≡ ruling (write_rule off v d) }
+pub fn write(a: Acting, d: u8) -> Ruling
+    ensures { result ≡ ruling (write_rule a.off a.record d) }
 {
+    let v = a.record;
     if !has_joined(v) {
         return Err(Refusal::WrongPhase);
     }
-    if has_mark(off, d as u32) {
+    if a.has_off(d) {
         return Err(Refusal::DriveIsOff);
     }
-    let mut w = v;
-    w.written = with_mark(v.written, d as u32);
+    let w = Server {
+        written: with_mark(v.written, d.into()),
+        ..v
+    };
     Ok((w, Answer::Done))
 }
 
 // 6 Read, phase 1 or 2, d written in this phase: b is server q's block on drive d. A done is learned before the ballots
 // are looked at.
 #[tactic(auto, unfolding(checks::specs::Checks::must, synod::specs::Rules::read_rule, synod::specs::Changes::reading, synod::specs::Changes::marking))]
-pub fn read(servers: u32, off: u32, v: Server, b: Block, p: u8, d: u8, q: u8) -> Ruling
-    ensures { result ≡ ruling (read_rule servers off v b p d q) }
+pub fn read(a: Acting, b: Block, d: u8, q: u8) -> Ruling
+    ensures { result ≡ ruling (read_rule a.sizes.servers a.off a.record b a.server d q) }
 {
+    let v = a.record;
     if !in_ballot(v) {
         return Err(Refusal::WrongPhase);
     }
-    if has_mark(off, d as u32) {
+    if a.has_off(d) {
         return Err(Refusal::DriveIsOff);
     }
-    if !has_mark(v.written, d as u32) {
+    if !has_mark(v.written, d.into()) {
         return Err(Refusal::NotWritten);
     }
-    let own = v.mbal;
-    let found = b.mbal;
-    let told = b.done != 0;
-    if told {
-        return agree_on(v, b.done);
+    if let Some(command) = command_in(b.done) {
+        return agree_on(v, command);
     }
-    if own <= found {
-        return outbid(servers, v, p, found);
+    if v.mbal <= b.mbal {
+        return outbid(a, b.mbal);
     }
-    let mut w = v;
-    w.read = with_mark(v.read, drives::read_bit(d as u32, q as u32));
+    let w = Server {
+        read: with_mark(v.read, drives::read_bit(d, q)),
+        ..v
+    };
     Ok((meet(w, b), Answer::Done))
 }
 
 // 7 Finish, phase 1 or 2, a majority of drives written with every other server's block read there.
-#[tactic(auto, using(crate::proofs::Judged::judged), unfolding(checks::specs::Checks::must, synod::specs::Rules::finish_rule, synod::specs::Changes::proposing))]
-pub fn finish(servers: u32, drives: u32, v: Server, p: u8) -> Ruling
-    ensures { result ≡ ruling (finish_rule servers drives v p) }
+#[tactic(auto, using(quorum::proofs::Gathered::majority_gathered), unfolding(checks::specs::Checks::must, synod::specs::Rules::finish_rule, synod::specs::Changes::proposing))]
+pub fn finish(a: Acting) -> Ruling
+    ensures { result ≡ ruling (finish_rule a.sizes.servers a.sizes.drives a.record a.server) }
 {
+    let v = a.record;
     if !in_ballot(v) {
         return Err(Refusal::WrongPhase);
     }
-    if !is_majority(drives, drives::complete(servers, v, p, drives)) {
+    if !is_majority(a.sizes.drives, a.complete()) {
         return Err(Refusal::NoMajority);
     }
     if v.phase == 1 {
-        let command = command_of(v);
-        if command == 0 {
-            return Err(Refusal::NothingToTry);
-        }
+        let command = command_to_try(v).ok_or(Refusal::NothingToTry)?;
         let w = v.with_own(2, v.mbal, v.mbal, command).cleared();
         return Ok((w, Answer::Chosen(command)));
     }
@@ -156,14 +166,14 @@ fn agree_on(v: Server, command: u32) -> Ruling
 
 // A block with a ballot that is not below the own one was found.
 #[tactic(auto, unfolding(checks::specs::Checks::must, synod::specs::Rules::outbid_rule))]
-fn outbid(servers: u32, v: Server, p: u8, found: u32) -> Ruling
-    ensures { result ≡ ruling (outbid_rule v found (next_own servers p found)) }
+fn outbid(a: Acting, found: u32) -> Ruling
+    ensures { result ≡ ruling (outbid_rule a.record found (next_own a.sizes.servers a.server found)) }
 {
-    let next = next_own(servers, p as u32, found).ok_or(Refusal::BallotsSpent)?;
-    Ok((restart(v, next), Answer::Outbid(found)))
+    let next = a.owner().next_own(found).ok_or(Refusal::BallotsSpent)?;
+    Ok((restart(a.record, next), Answer::Outbid(found)))
 }
 
-// Phase 1 of a new ballot.
+// Phase 1 of a new ballot. A function, as those below, and no method of the record: its definition is in synod, above state.
 #[tactic(auto, unfolding(synod::specs::Changes::bidding))]
 fn restart(v: Server, ballot: u32) -> Server
     ensures { result ≡ bidding v ballot }
@@ -173,15 +183,18 @@ fn restart(v: Server, ballot: u32) -> Server
 
 // A block met in this phase: a larger bal replaces what was seen.
 #[tactic(auto, unfolding(synod::specs::Changes::meeting))]
-fn meet(mut v: Server, b: Block) -> Server
+fn meet(v: Server, b: Block) -> Server
     ensures { result ≡ meeting v b }
 {
-    let better = v.seenbal < b.bal;
-    if better {
-        v.seenbal = b.bal;
-        v.seeninp = b.inp;
+    if v.seenbal < b.bal {
+        Server {
+            seenbal: b.bal,
+            seeninp: b.inp,
+            ..v
+        }
+    } else {
+        v
     }
-    v
 }
 
 fn in_ballot(v: Server) -> bool
@@ -196,9 +209,9 @@ fn has_joined(v: Server) -> bool
     matches!(v.phase, 1 | 2 | 3)
 }
 
-// The command of phase 1; 0 is none.
-fn command_of(v: Server) -> u32
-    ensures { result ≡ command_of v }
+// The command of phase 1, as far as there is one.
+fn command_to_try(v: Server) -> Option<u32>
+    ensures { result ≡ command_in (command_of v) }
 {
-    if v.seeninp == 0 { v.offer } else { v.seeninp }
+    command_in(v.seeninp).or(command_in(v.offer))
 }

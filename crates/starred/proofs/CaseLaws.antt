@@ -22,6 +22,7 @@ use Rattle.layout.proofs.PlaceLaws.{fit_of, of_fit}
 use Rattle.room.specs.Open.{opening}
 use Rattle.room.proofs.OpenLaws.{Opens, opens_1}
 use Rattle.state.specs.Sizes.{sizes}
+use Rattle.state.specs.Answers.{code_of, number_of}
 use Rattle.starred.specs.Runs.{new_room, same_answer}
 use Rattle.starred.specs.Cases.{Case, Length, Unopened, Command, NoCommand, Owned, Majority, Run, offered, IsCommand, IsUnopened, Says, is_unopened, holds}
 use Rattle.starred.proofs.RunLaws.{both, same_answer_lem, run_says}
@@ -87,8 +88,11 @@ case_says (Length n d s cells) e =
 case_says (Unopened n number) e = λ d s row. unopened n number d s row e
 case_says (Command v k p h) e = command v k p h e
 case_says (NoCommand v number) e =
-    let t = both (not (is_command cabinet_limits v)) (eqb (refusal_in (offered v)) number) e in
-    (not-true (is_command cabinet_limits v) t.0, eqb-true (refusal_in (offered v)) number t.1)
+    let word = eqb (code_of (offered v)) 4 in
+    let told = eqb (number_of (offered v)) number in
+    let t = both (not (is_command cabinet_limits v)) (word && told) e in
+    let u = both word told t.1 in
+    (not-true (is_command cabinet_limits v) t.0, eqb-true (code_of (offered v)) 4 u.0, eqb-true (number_of (offered v)) number u.1)
 case_says (Owned n b p) e =
     let only : ℕ → Bool = λ q. not (owned n q b) || eqb q p in
     let t = both (owned n p b) (all_below n only) e in

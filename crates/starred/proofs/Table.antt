@@ -13,10 +13,10 @@ use Rattle.synod.specs.Changes.{meeting, marking, topping, recalling, rejoining,
 use Rattle.checks.specs.Checks.{must}
 use Rattle.synod.specs.Rules.{rule_of, bid_rule, finish_rule, offer_rule, outbid_rule, read_rule, recall_rule, rejoin_rule, write_rule}
 use Rattle.layout.specs.Places.{slot_length, room_length, slot_at, server_at, nth_block_at, block_at, sizes_fit}
-use Rattle.layout.specs.Cells.{server_of, put_server, block_of, put_block}
-use Rattle.range.specs.Range.{legal_drives, legal_reads, value_fits, numbers_fit, server_fits, block_fits, servers_fit, blocks_fit, slot_fits, cells_fit, in_range}
+use Rattle.layout.specs.Cells.{is_row, server_of, put_server, block_of, put_block}
+use Rattle.range.specs.Range.{legal_drives, legal_reads, value_fits, numbers_fit, server_fits, block_fits, servers_fit, blocks_fit, slot_fits, room_fits, in_range}
 use Rattle.room.specs.Open.{open_checks, opened_cells, opening, opened}
-use Rattle.room.specs.Judge.{effect_of, step_checks, judged}
+use Rattle.room.specs.Judge.{effect_of, step_rule, judged}
 use Rattle.room.specs.Step.{failed_below, settled, answered, stepped}
 use Rattle.state.specs.Block.{same_block}
 use Rattle.starred.specs.Runs.{new_room, own, on_drive, same_answer, replays}
@@ -32,9 +32,9 @@ unfolding all_hold starred holds new_room own on_drive same_answer same_block re
     places_fit command_fits
     meeting marking topping recalling rejoining bidding writing reading proposing
     must offer_rule recall_rule rejoin_rule bid_rule write_rule outbid_rule read_rule finish_rule
-    slot_length room_length slot_at server_at nth_block_at block_at sizes_fit server_of put_server block_of put_block
-    legal_drives legal_reads value_fits numbers_fit server_fits block_fits servers_fit blocks_fit slot_fits cells_fit in_range
-    opened_cells open_checks opening opened step_checks effect_of rule_of judged failed_below settled answered stepped
+    slot_length room_length slot_at server_at nth_block_at block_at sizes_fit is_row server_of put_server block_of put_block
+    legal_drives legal_reads value_fits numbers_fit server_fits block_fits servers_fit blocks_fit slot_fits room_fits in_range
+    opened_cells open_checks opening opened step_rule effect_of rule_of judged failed_below settled answered stepped
 starred_hold = refl
 
 each : (cases : List Case) → all_hold cases ≡ true → (i : ℕ) → Says (case_at cases i)

@@ -7,12 +7,14 @@ use native.Mathlib.Omega.{arith}
 use lib.Count.{ones}
 use lib.Dec.{leb}
 use Rattle.std.specs.Prelude.{Ok, Err}
+use Rattle.checks.specs.declared.Refusal.{Refusal}
 use Rattle.checks.specs.declared.Refusal.TheVariants.{NoCommand}
-use Rattle.checks.specs.Refusals.{refusal_in}
+use Rattle.checks.specs.Refusals.{refusal_in, refusal_number}
 use Rattle.checks.proofs.NumberLaws.{refused_is}
 use Rattle.quorum.specs.Marks.{stands}
 use Rattle.quorum.specs.Sets.{majority}
-use Rattle.state.specs.declared.Answer.TheVariants.{Outbid}
+use Rattle.state.specs.declared.Answer.TheVariants.{Done, Outbid, Chosen, Committed}
+use Rattle.state.specs.Answers.{Answered, code_of, number_of}
 use Rattle.state.specs.declared.Block.{Block}
 use Rattle.state.specs.declared.Step.TheVariants.{Read}
 use Rattle.layout.specs.Places.{room_length}
@@ -35,9 +37,19 @@ pub no_servers : (d s : ℕ) (row : List ℕ) → refusal_in (opening (sizes 0 d
 unfolding starred
 no_servers d s row = (starred_says 2 d s row).refused
 
+-- what is refused with a number is told by the number
+refused_told : (a : Answered) (r : Refusal) → code_of a ≡ 4 → number_of a ≡ refusal_number r → refusal_in a ≡ refusal_number r
+refused_told (Ok Done) r word told = absurd (omega (arith, word))
+refused_told (Ok (Outbid b)) r word told = absurd (omega (arith, word))
+refused_told (Ok (Chosen v)) r word told = absurd (omega (arith, word))
+refused_told (Ok (Committed v)) r word told = absurd (omega (arith, word))
+refused_told (Err refusal) r word told = told
+
 pub above_the_limit : offered 81725 ≡ Err NoCommand
 unfolding starred
-above_the_limit = refused_is (offered 81725) NoCommand (starred_says 4).1
+above_the_limit =
+    let says = starred_says 4 in
+    refused_is (offered 81725) NoCommand (refused_told (offered 81725) NoCommand says.1 says.2)
 
 -- drive 0 alone of two drives, and not drive 1 alone
 pub drive_0_of_2 : majority 2 (stands 1) ≡ true

@@ -8,7 +8,7 @@ use Rattle.quorum.specs.Marks.{stands}
 use Rattle.quorum.specs.Sets.{all_below, majority}
 use Rattle.checks.specs.Refusals.{refusal_in}
 use Rattle.state.specs.declared.Answer.TheVariants.{Done}
-use Rattle.state.specs.Answers.{Answered}
+use Rattle.state.specs.Answers.{Answered, code_of, number_of}
 use Rattle.state.specs.declared.Sizes.{Sizes}
 use Rattle.state.specs.declared.Step.TheVariants.{Offer}
 use Rattle.layout.specs.Places.{sizes_fit, room_length}
@@ -64,7 +64,7 @@ abbrev pub Says : Case → Type 0
 Says (Length n d s cells) = (sizes_fit (sizes n d s) ≡ true) × (room_length (sizes n d s) ≡ cells)
 Says (Unopened n number) = (d s : ℕ) (row : List ℕ) → IsUnopened (sizes n d s) number row
 Says (Command v k p h) = IsCommand v k p h
-Says (NoCommand v number) = (is_command cabinet_limits v ≡ false) × (refusal_in (offered v) ≡ number)
+Says (NoCommand v number) = (is_command cabinet_limits v ≡ false) × (code_of (offered v) ≡ 4) × (number_of (offered v) ≡ number)
 Says (Owned n b p) = (owned n p b ≡ true) × ((q : ℕ) → q < n → owned n q b ≡ true → q ≡ p)
 Says (Majority d counts) = (m : ℕ) → m < 2 ^ d → majority d (stands m) ≡ counts m
 Says (Run n d run) = Replays (new_room (sizes n d 1)) run
@@ -81,7 +81,7 @@ holds (Unopened n number) = is_unopened n number
 holds (Command v k p h) =
     is_command cabinet_limits v
     && (eqb (kind_of v) k && (eqb (piece_of v) p && (eqb (hoard_of v) h && same_answer (offered v) (Ok Done))))
-holds (NoCommand v number) = not (is_command cabinet_limits v) && eqb (refusal_in (offered v)) number
+holds (NoCommand v number) = not (is_command cabinet_limits v) && (eqb (code_of (offered v)) 4 && eqb (number_of (offered v)) number)
 holds (Owned n b p) = owned n p b && all_below n (λ q. not (owned n q b) || eqb q p)
 holds (Majority d counts) = all_below (2 ^ d) (λ m. beq (majority d (stands m)) (counts m))
 holds (Run n d run) = replays (new_room (sizes n d 1)) run

@@ -1,5 +1,5 @@
 -- The block and the ballots that cells hold (SPEC, "The room in memory").
-use Rattle.std.specs.Prelude.{ℕ, Bool, ◌&&◌, eqb, leb}
+use Rattle.std.specs.Prelude.{ℕ, Bool, ◌&&◌, cond, eqb, leb, Option, Some, None}
 use Rattle.state.specs.declared.Block.{Block}
 
 -- the block of these ballots and this command, with no done
@@ -13,6 +13,10 @@ blank = block 0 0 0
 -- two blocks are equal, cell by cell
 unfoldable pub same_block : Block → Block → Bool
 same_block a b = eqb a.mbal b.mbal && eqb a.bal b.bal && eqb a.inp b.inp && eqb a.done b.done
+
+-- the command that a cell holds; 0 is none
+abbrev pub command_in : ℕ → Option ℕ
+command_in cell = cond (eqb cell 0) None (Some cell)
 
 -- the largest ballot
 abbrev pub limit : ℕ

@@ -1,8 +1,9 @@
 // What the algorithm is about, by value: a block, a server's record, a step, an answer.
 #![tactic(auto)]
 
-ghost use Rattle.std.specs.Prelude.{◌≡◌};
-ghost use Rattle.state.specs.Block.{ballot_fits, same_block};
+ghost use Rattle.std.specs.Prelude.{◌≡◌, ltb};
+ghost use Rattle.state.specs.Sizes.{sizes, in_room, drive_fits};
+ghost use Rattle.state.specs.Block.{ballot_fits, same_block, command_in};
 ghost use Rattle.state.specs.Server.{with_own, with_agreed, cleared, failed, own_block, output_of, is_free};
 ghost use Rattle.state.specs.Answers.{code_of, number_of};
 
@@ -14,6 +15,53 @@ pub struct Sizes {
     pub servers: u32,
     pub drives: u32,
     pub slots: u32,
+}
+
+impl Sizes {
+    // The sizes of the largest room.
+    pub const LARGEST: Sizes = Sizes {
+        servers: 4,
+        drives: 7,
+        slots: 16,
+    };
+
+    pub fn new(servers: u32, drives: u32, slots: u32) -> Self
+        ensures { result ≡ sizes servers drives slots }
+    {
+        Self {
+            servers,
+            drives,
+            slots,
+        }
+    }
+
+    // Whether the room has the server.
+    pub fn has_server(self, server: u32) -> bool
+        ensures { result ≡ ltb server self.servers }
+    {
+        server < self.servers
+    }
+
+    // Whether the room has the server and the slot.
+    pub fn has_slot(self, server: u32, slot: u32) -> bool
+        ensures { result ≡ in_room self server slot }
+    {
+        self.has_server(server) && slot < self.slots
+    }
+
+    // Whether the room has the drive.
+    pub fn has_drive(self, drive: u32) -> bool
+        ensures { result ≡ drive_fits self drive }
+    {
+        drive < self.drives
+    }
+}
+
+// The command that a cell holds; a cell with none holds 0.
+pub fn command_in(cell: u32) -> Option<u32>
+    ensures { result ≡ command_in cell }
+{
+    if cell == 0 { None } else { Some(cell) }
 }
 
 // What a server keeps on a drive: its current ballot, the last ballot in which its phase 2 began, the command tried in
@@ -127,7 +175,7 @@ impl Server {
         .cleared()
     }
 
-    // The block that the server would write: done says what its output is.
+    // The block that the server would write: done says what its output is, 0 for none, as the cell holds it.
     pub fn own_block(self) -> Block
         ensures { result ≡ own_block self }
     {
@@ -135,15 +183,19 @@ impl Server {
             mbal: self.mbal,
             bal: self.bal,
             inp: self.inp,
-            done: self.output(),
+            done: self.output().unwrap_or(0),
         }
     }
 
-    // The command that the slot was settled with, as far as this server knows. 0 is none, as in the cell that it comes from.
-    pub fn output(self) -> u32
-        ensures { result ≡ output_of self }
+    // The command that the slot was settled with, as far as this server knows.
+    pub fn output(self) -> Option<u32>
+        ensures { result ≡ command_in (output_of self) }
     {
-        if self.phase == 3 { self.agreed } else { 0 }
+        if self.phase == 3 {
+            command_in(self.agreed)
+        } else {
+            None
+        }
     }
 
     // Whether the slot is free for this server: it offers nothing there and is not in phase 3.
@@ -209,9 +261,7 @@ pub fn number(answered: Result<Answer, Refusal>) -> u32
 {
     match answered {
         Ok(Answer::Done) => 0,
-        Ok(Answer::Outbid(ballot)) => ballot,
-        Ok(Answer::Chosen(command)) => command,
-        Ok(Answer::Committed(command)) => command,
+        Ok(Answer::Outbid(number) | Answer::Chosen(number) | Answer::Committed(number)) => number,
         Err(refusal) => refusal.number(),
     }
 }

@@ -13,7 +13,7 @@ use Rattle.state.specs.View.{view_of, view_slot}
 use Rattle.synod.specs.Rules.{offer_rule, recall_rule, rejoin_rule, bid_rule, write_rule, outbid_rule, read_rule, finish_rule, rule_of}
 use Rattle.synod.specs.Slot.{Slot, Config, config_of}
 use Rattle.layout.specs.Cells.{sizes_of, off_of}
-use Rattle.room.specs.Judge.{seen, effect_by, step_checks, judged, answer_of}
+use Rattle.room.specs.Judge.{seen, effect_by, step_rule, judged, answer_of}
 use Rattle.room.specs.Step.{settled, answered, stepped}
 use Rattle.step_laws.specs.Refusals.{refusals, own_numbers, numbers_for}
 
@@ -33,7 +33,7 @@ kind c off σ (DriveOn d) = refl
 
 -- the numbers of a step's refusals are those of the table
 pub numbers_listed : (cells : List ℕ) (st : Step) → numbers_of (refusals cells st) ≡ numbers_for st
-unfolding refusals step_checks numbers_of
+unfolding refusals step_rule numbers_of
 numbers_listed cells st =
     ap (λ (ns : List ℕ). 3 ∷ 4 ∷ 5 ∷ ns)
     (kind (config_of (sizes_of cells)) (off_of cells) (seen (sizes_of cells) cells (view_slot (view_of st))) st)
@@ -57,8 +57,8 @@ pub answer_lowest : (cells : List ℕ) (st : Step) → refusal_in (answered cell
 unfolding answered judged refusals
 answer_lowest cells st =
     refusal_mapped answer_of (judged cells st)
-    ∙ refusal_mapped (effect_by cells st) (outcome (step_checks cells st))
-    ∙ first_applies (step_checks cells st)
+    ∙ refusal_mapped (effect_by cells st) (outcome (step_rule cells st))
+    ∙ first_applies (step_rule cells st)
 
 -- and no lower one applies
 pub answer_least

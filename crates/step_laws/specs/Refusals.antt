@@ -4,11 +4,11 @@ use Rattle.std.specs.Prelude.{ℕ, List, [], ◌∷◌}
 use Rattle.checks.specs.Refusals.{Possible, refusals_of}
 use Rattle.state.specs.declared.Step.{Step}
 use Rattle.state.specs.declared.Step.TheVariants.{Offer, Recall, Rejoin, Bid, Write, Read, Finish, Fail, DriveOff, DriveOn}
-use Rattle.room.specs.Judge.{step_checks}
+use Rattle.room.specs.Judge.{step_rule}
 
 -- every refusal of a step, in the order of its checks
 unfoldable pub refusals : List ℕ → Step → List Possible
-refusals cells st = refusals_of (step_checks cells st)
+refusals cells st = refusals_of (step_rule cells st)
 
 -- the numbers of each kind's own rule
 unfoldable pub own_numbers : Step → List ℕ

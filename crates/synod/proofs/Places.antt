@@ -10,7 +10,8 @@ use Rattle.state.specs.declared.Step.{Step}
 use Rattle.state.specs.declared.Step.TheVariants.{Offer, Recall, Rejoin, Bid, Write, Read, Finish, Fail, DriveOff, DriveOn}
 use Rattle.state.specs.View as view
 use Rattle.state.specs.View.{View, view_of}
-use Rattle.synod.specs.Arguments.{in_room, drive_fits, places_fit}
+use Rattle.state.specs.Sizes.{in_room, drive_fits}
+use Rattle.synod.specs.Arguments.{places_fit}
 
 pub record AtServer (z : Sizes) (s p : ℕ) : Type 0 where
   pub slot : s < z.slots

@@ -3,16 +3,10 @@
 use Rattle.std.specs.Prelude.{ℕ, Bool, true, not, ◌&&◌, List, eqb, ltb}
 use Rattle.command.specs.Command.{is_command}
 use Rattle.state.specs.declared.Sizes.{Sizes}
+use Rattle.state.specs.Sizes.{in_room, drive_fits}
 use Rattle.state.specs.declared.Step.{Step}
 use Rattle.state.specs.declared.Step.TheVariants.{Offer, Recall, Rejoin, Bid, Write, Read, Finish, Fail, DriveOff, DriveOn}
 use Rattle.state.specs.View.{Brings, Stores, Alone, View, AtSlot, AtServer, AtDrive, view_of}
-
--- server p and slot s are in the room
-abbrev pub in_room : Sizes → ℕ → ℕ → Bool
-in_room z p s = ltb p z.servers && ltb s z.slots
-
-abbrev pub drive_fits : Sizes → ℕ → Bool
-drive_fits z d = ltb d z.drives
 
 -- every place that the step names is in the room
 unfoldable pub places_fit : Sizes → Step → Bool

@@ -12,8 +12,8 @@ use borrow.Author.Tests.{le-leb, leb-true}
 use Rattle.lemmas.proofs.Tests.{same_test}
 use Rattle.std.specs.Prelude.{Ok, Err}
 use Rattle.state.specs.declared.Answer.TheVariants.{Done, Outbid, Chosen, Committed}
-use Rattle.state.specs.Answers.{Answered, number_of}
-use Rattle.transcript.specs.Lines.{word_of, step_line, server_line, open_line, line_max, placed, has_room, Printed}
+use Rattle.state.specs.Answers.{Answered}
+use Rattle.transcript.specs.Lines.{word_of, server_line, open_line, line_max, placed, has_room, Printed}
 use Rattle.transcript.proofs.DigitLaws.{digits_ten}
 
 -- the test for room, as the code makes it
@@ -67,10 +67,6 @@ word_length (Ok (Outbid b)) = omega arith
 word_length (Ok (Chosen c)) = omega arith
 word_length (Ok (Committed c)) = omega arith
 word_length (Err n) = omega arith
-
-pub step_max_lem : (index : ℕ) (a : Answered) → index < 2 ^ 32 → number_of a < 2 ^ 32 → length (step_line index a) ≤ line_max
-unfolding step_line
-step_max_lem index a h k = simp length-append (omega (arith, digits_ten index h, digits_ten (number_of a) k, word_length a))
 
 pub server_max
     : (server taken skipped : ℕ) → server < 2 ^ 32 → taken < 2 ^ 32 → skipped < 2 ^ 32

@@ -1,5 +1,5 @@
 -- The lines that rehearse prints (SPEC, "Step records"), and where they go in a buffer.
-use Rattle.std.specs.Prelude.{ℕ, ◌+◌, ◌≡◌, Bool, cond, List, ◌++◌, length, take, drop, leb, codes, Ok, Err}
+use Rattle.std.specs.Prelude.{ℕ, ◌+◌, ◌≤◌, ◌≡◌, Bool, cond, List, ◌++◌, length, take, drop, leb, codes, Ok, Err}
 use Rattle.state.specs.declared.Answer.TheVariants.{Done, Outbid, Chosen, Committed}
 use Rattle.state.specs.Answers.{Answered, number_of}
 use Rattle.transcript.specs.Text.{digits}
@@ -39,6 +39,11 @@ open_line number = codes "open refused " ++ digits number ++ codes "\n"
 -- the bytes of the longest line of 32-bit numbers, which is a server's
 abbrev pub line_max : ℕ
 line_max = 54
+
+-- a text pushed behind some bytes, and how much longer that makes them at most
+pub record Pushes (old text new : List ℕ) (most : ℕ) : Type 0 where
+  pub pushed : new ≡ old ++ text
+  pub upper_bound : length new ≤ length old + most
 
 -- the buffer with some bytes in it from a place on
 unfoldable pub placed : List ℕ → ℕ → List ℕ → List ℕ

@@ -4,7 +4,7 @@
 ghost use Rattle.std.specs.Prelude.{◌≡◌, ◌+◌, ◌<◌, ◌≤◌, ◌++◌, length, codes};
 ghost use Rattle.arrayvec.specs.ArrayString.{array_string_len};
 ghost use Rattle.transcript.specs.Text.{digits};
-ghost use Rattle.transcript.specs.Lines.{answer_text, step_line, server_line, open_line, line_max, has_room, Prints};
+ghost use Rattle.transcript.specs.Lines.{answer_text, step_line, server_line, open_line, line_max, has_room, Prints, Pushes};
 
 use arrayvec::ArrayString;
 use checks::Refusal;
@@ -14,12 +14,13 @@ use state::Answer;
 // The longest line: "server ", " taken ", " skipped ", three numbers of ten digits, and the line's end.
 pub const LINE_MAX: usize = 54;
 
-// A line as it grows. Its parts are pushed, since `write!` says what it has written only where it answers Ok, and no
-// contract says that it does.
+// A line as it grows. Its parts are pushed. `write!` was tried: no contract says that it answers Ok, and only then is it
+// known what it wrote.
 type Line = ArrayString<LINE_MAX>;
 
-// The text so far, at the start of a buffer, which is lent and no Vec, since memory is fixed. Each line goes behind it;
-// where the longest line would have no room, nothing changes.
+// The text so far, at the start of a buffer. The buffer is lent: no Vec, since memory is fixed, and no array string, which
+// would be made anew and moved. Each line goes behind the text; where the longest line would have no room, nothing
+// changes.
 #[derive(Drop)]
 pub struct Transcript<'a> {
     pub buffer: &'a mut [u8],
@@ -59,7 +60,7 @@ impl<'a> Transcript<'a> {
         self.put_line(line);
     }
 
-    // The only line of a run whose open is refused.
+    // The only line where no room is opened, with a refusal's number.
     #[tactic(auto, unfolding(crate::specs::Lines::open_line))]
     pub fn open_line(&mut self, number: u32)
         ensures { Prints self.old (open_line number) self.new }
@@ -96,23 +97,22 @@ impl<'a> Transcript<'a> {
 // The word and the number of an answer, each after a space: 21 bytes at most.
 fn push_answer(line: &mut Line, answer: Result<Answer, Refusal>)
     requires { array_string_len line.old + 21 ≤ line_max }
-    ensures pushed { line.new.bytes ≡ line.old.bytes ++ answer_text answer }
-    ensures upper_bound { array_string_len line.new ≤ array_string_len line.old + 21 }
+    ensures { Pushes line.old.bytes (answer_text answer) line.new.bytes 21 }
 {
-    match answer {
-        Ok(Answer::Done) => push_field(line, " done ", 0),
-        Ok(Answer::Outbid(ballot)) => push_field(line, " outbid ", ballot),
-        Ok(Answer::Chosen(command)) => push_field(line, " chosen ", command),
-        Ok(Answer::Committed(command)) => push_field(line, " committed ", command),
-        Err(refusal) => push_field(line, " refused ", refusal.number()),
-    }
+    let label = match answer {
+        Ok(Answer::Done) => " done ",
+        Ok(Answer::Outbid(_)) => " outbid ",
+        Ok(Answer::Chosen(_)) => " chosen ",
+        Ok(Answer::Committed(_)) => " committed ",
+        Err(_) => " refused ",
+    };
+    push_field(line, label, state::number(answer));
 }
 
 // A number after its label.
 fn push_field(line: &mut Line, label: &str, number: u32)
     requires { array_string_len line.old + length label.now + 10 ≤ line_max }
-    ensures pushed { line.new.bytes ≡ line.old.bytes ++ label.now ++ digits number }
-    ensures upper_bound { array_string_len line.new ≤ array_string_len line.old + length label.now + 10 }
+    ensures { Pushes line.old.bytes (label.now ++ digits number) line.new.bytes (length label.now + 10) }
 {
     line.push_str(label);
     push_number(line, number);
@@ -122,8 +122,7 @@ fn push_field(line: &mut Line, label: &str, number: u32)
 #[tactic(auto, using(crate::proofs::DigitLaws::digits_decimal))]
 fn push_number(line: &mut Line, number: u32)
     requires { array_string_len line.old + 10 ≤ line_max }
-    ensures pushed { line.new.bytes ≡ line.old.bytes ++ digits number }
-    ensures upper_bound { array_string_len line.new ≤ array_string_len line.old + 10 }
+    ensures { Pushes line.old.bytes (digits number) line.new.bytes 10 }
 {
     line.push_str(Buffer::new().format(number));
 }

@@ -10,10 +10,10 @@ use Rattle.synod.specs.Changes.{meeting, marking, topping, recalling, rejoining,
 use Rattle.checks.specs.Checks.{must}
 use Rattle.synod.specs.Rules.{rule_of, finish_rule, offer_rule, outbid_rule, read_rule, recall_rule, rejoin_rule, write_rule}
 use Rattle.layout.specs.Places.{slot_length, room_length, slot_at, server_at, nth_block_at, block_at, sizes_fit}
-use Rattle.layout.specs.Cells.{server_of, put_server, block_of, put_block}
-use Rattle.range.specs.Range.{legal_drives, legal_reads, value_fits, numbers_fit, server_fits, block_fits, servers_fit, blocks_fit, slot_fits, cells_fit, in_range}
+use Rattle.layout.specs.Cells.{is_row, server_of, put_server, block_of, put_block}
+use Rattle.range.specs.Range.{legal_drives, legal_reads, value_fits, numbers_fit, server_fits, block_fits, servers_fit, blocks_fit, slot_fits, room_fits, in_range}
 use Rattle.room.specs.Open.{open_checks, opened_cells, opening, opened}
-use Rattle.room.specs.Judge.{effect_of, step_checks, judged}
+use Rattle.room.specs.Judge.{effect_of, step_rule, judged}
 use Rattle.room.specs.Step.{failed_below, settled, answered, stepped}
 use Rattle.free_slots.specs.Ask.{free_at, first_from, lowest_free, ask_checks, asked}
 use Rattle.free_slots.specs.Put.{put_rule, put_judged, put_answered, put_cells}
@@ -35,9 +35,9 @@ unfolding survivor rivals gap halves asks learners strikes reuses new_room calls
     places_fit command_fits
     meeting marking topping recalling rejoining bidding writing reading proposing agreeing
     must offer_rule recall_rule rejoin_rule write_rule outbid_rule read_rule finish_rule
-    slot_length room_length slot_at server_at nth_block_at block_at sizes_fit server_of put_server block_of put_block
-    legal_drives legal_reads value_fits numbers_fit server_fits block_fits servers_fit blocks_fit slot_fits cells_fit in_range
-    opened_cells open_checks opening opened step_checks effect_of rule_of judged failed_below settled answered stepped
+    slot_length room_length slot_at server_at nth_block_at block_at sizes_fit is_row server_of put_server block_of put_block
+    legal_drives legal_reads value_fits numbers_fit server_fits block_fits servers_fit blocks_fit slot_fits room_fits in_range
+    opened_cells open_checks opening opened step_rule effect_of rule_of judged failed_below settled answered stepped
     free_at first_from lowest_free ask_checks asked put_rule put_judged put_answered put_cells
     applies entry cells_after skipped_by folded output_at leading outputs_of entries_of catalogue_checks catalogue_of catalogue_cells
     said commands_of first_output output_by move_of

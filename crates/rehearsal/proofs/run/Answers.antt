@@ -1,16 +1,9 @@
 -- `run` meets its contract: open answers that the room is opened or, since the row is exact, that the sizes do not fit.
-use Rattle.std.proofs.Common.{sym, rules, arith}
-use Rattle.layout.proofs.PlaceLaws.{fit_of}
+use Rattle.std.proofs.Common.{sym, rules}
 use Rattle.rehearsal.specs.Script.{script}
 use Rattle.rehearsal.proofs.BufferLaws.{adds_then}
-use Rattle.rehearsal.proofs.OpenedLaws.{opened_fits, opened_text, refused_text}
+use Rattle.rehearsal.proofs.OpenedLaws.{opened_text, refused_text}
 use Rattle.rehearsal.proofs.run.Goals as goal
-
-pub servers-requires : goal.servers-requires
-servers-requires c =
-    let few = (fit_of c.args.z (opened_fits c.args.z _ (sym c.in-Ok.ensures.0))).servers in
-    let lines = c.steps.ensures.lines in
-    omega (arith, few, lines.few, lines.size, c.requires)
 
 pub returns-in-Ok : goal.returns-in-Ok
 returns-in-Ok c =

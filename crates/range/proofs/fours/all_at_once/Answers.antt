@@ -1,13 +1,18 @@
--- `range::fours::all_at_once` meets its contract: each of the four blocks is tested.
-use mathlib.Core.Path.{◌∙◌, ap}
-use mathlib.Core.Bool.{◌&&◌}
-use Rattle.range.proofs.Pieces.{each_of_four}
+-- `range::fours::all_at_once` meets its contract: what is gathered with no branch is a test of each block.
+use Prim.Native.Nat.{ℕ}
+use mathlib.Core.Path.{◌∙◌}
+use mathlib.Core.Bool.{Bool, true, ◌&&◌}
+use mathlib.Core.List.{List}
+use Rattle.std.proofs.Common.{rules}
+use Rattle.std.proofs.lemmas.Iterator.{YieldsList-from_slice}
+use Rattle.std.proofs.lemmas.Iterator.Consumers.{fold_from_yields_List}
+use Rattle.layout.specs.Cells.{block_in}
+use Rattle.range.proofs.Chunks.{fold_all}
 use Rattle.range.proofs.fours.all_at_once.Goals as goal
 
 pub returns : goal.returns
 returns g c = λ p h.
-    let a = h _ _ c.test.ensures ∙ ap p c.block.ensures in
-    let b = h _ _ c.test-2.ensures ∙ ap p c.block-2.ensures in
-    let d = h _ _ c.test-3.ensures ∙ ap p c.block-3.ensures in
-    let e = h _ _ c.test-4.ensures ∙ ap p c.block-4.ensures in
-    (λ i. a i && b i && d i && e i) ∙ each_of_four p c.args.four.now c.told-four
+    let test : List ℕ → Bool = λ cells. p (block_in cells 0) in
+    fold_from_yields_List _ (λ (all : Bool) (cells : List ℕ). all && test cells) true _ c.fold.ensures.ran
+    (YieldsList-from_slice c.args.four.now c.iter.ensures.rest) (λ a x b q k. search (rules, h))
+    ∙ fold_all test true c.args.four.now

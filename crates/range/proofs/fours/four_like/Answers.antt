@@ -2,12 +2,12 @@
 use mathlib.Core.Path.{◌∙◌, sym}
 use Rattle.command.specs.Tops.{value_by}
 use Rattle.range.specs.Range.{block_fits}
-use Rattle.range.proofs.Pieces.{like_four}
+use Rattle.range.proofs.Chunks.{like_four}
 use Rattle.range.proofs.fours.four_like.Goals as goal
 
 pub returns-then-four_same : goal.returns-then-four_same
 returns-then-four_same c =
     c.if-four_same.true
     ∙ sym
-    (like_four (block_fits (value_by c.args.tops.now)) c.args.judged.now c.args.four.now
+    (like_four (block_fits (value_by c.args.tops.now.0)) c.args.judged.now c.args.four.now
     (c.four_same.ensures c.if-four_same.true) c.requires)

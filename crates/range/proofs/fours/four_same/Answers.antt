@@ -1,14 +1,24 @@
 -- `range::fours::four_same` meets its contract: each of the four is compared with its own.
-use mathlib.Core.Path.{◌∙◌, sym, ap₂}
-use mathlib.Core.Bool.{◌&&◌}
+use Prim.Native.Nat.{ℕ}
+use mathlib.Core.Path.{◌∙◌, sym}
+use mathlib.Core.Bool.{Bool, true, ◌&&◌}
+use mathlib.Core.List.{List}
+use native.Mathlib.Omega.{arith}
+use Rattle.std.proofs.Common.{rules}
+use Rattle.std.specs.List.{zip}
+use Rattle.std.proofs.lemmas.Iterator.{YieldsList-from_slice, YieldsList-from_zip}
+use Rattle.std.proofs.lemmas.Iterator.Consumers.{fold_from_yields_List}
 use Rattle.state.specs.Block.{same_block}
-use Rattle.range.proofs.Pieces.{same_four}
+use Rattle.layout.specs.Cells.{block_in}
+use Rattle.range.proofs.Chunks.{fold_all, same_pairs}
 use Rattle.range.proofs.fours.four_same.Goals as goal
 
 pub returns : goal.returns
 returns c = λ h.
-    let a = c.same.ensures ∙ ap₂ same_block c.block.ensures c.block-2.ensures in
-    let b = c.same-2.ensures ∙ ap₂ same_block c.block-3.ensures c.block-4.ensures in
-    let d = c.same-3.ensures ∙ ap₂ same_block c.block-5.ensures c.block-6.ensures in
-    let e = c.same-4.ensures ∙ ap₂ same_block c.block-7.ensures c.block-8.ensures in
-    same_four c.args.a.now c.args.b.now c.told-a c.told-b (sym (λ i. a i && b i && d i && e i) ∙ h)
+    let a = c.args.a.now in
+    let b = c.args.b.now in
+    let test : List ℕ × List ℕ → Bool = λ p. same_block (block_in p.0 0) (block_in p.1 0) in
+    let judged = fold_from_yields_List _ (λ (all : Bool) (p : List ℕ × List ℕ). all && test p) true _ c.fold.ensures.ran
+    (YieldsList-from_zip (YieldsList-from_slice a (cc)) (YieldsList-from_slice b (cc)))
+    (λ s x r q k. search rules) in
+    same_pairs a b (omega (arith, c.told-a, c.told-b)) (sym (fold_all test true (zip a b)) ∙ sym judged ∙ h)

@@ -8,13 +8,13 @@ use Rattle.state.specs.Block.{blank, same_block}
 use Rattle.layout.specs.Cells.{block_in}
 use Rattle.range.specs.Range.{block_fits, every_block}
 use Rattle.range.proofs.Together.{zero_by, same_block_lem}
-use Rattle.range.proofs.Pieces.{list_all_then}
+use Rattle.range.proofs.Chunks.{list_all_then}
 use Rattle.range.proofs.fours.fours_fit.Goals as goal
 
 pub returns-then-all_blank : goal.returns-then-all_blank
 unfolding block_fits
 returns-then-all_blank c =
-    let tops = c.args.tops.now in
+    let tops = c.args.tops.now.0 in
     let one = λ (b : Block) (h : same_block blank b ≡ true).
     subst (λ (x : Block). block_fits (value_by tops) x ≡ true) (same_block_lem blank b h)
     (and_intro _ _ refl (and_intro _ _ (zero_by tops) (zero_by tops))) in

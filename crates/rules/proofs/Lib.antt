@@ -1,2 +1,0 @@
--- A majority, from the cell that a set was gathered in.
-mod Judged
