@@ -144,13 +144,13 @@ module _ (limits : List ℕ) (z : Sizes) (cells : List ℕ) (g : ℕ → Ghost) 
         within = λ t. rw (refused_rests t st n) tt;
       }
 
-module _ (z : Sizes) (cells : List ℕ) (g : ℕ → Ghost) (σ : ℕ → Slot) (now : Moment (limits_of cells) z cells g σ) where
+module _ (limits : List ℕ) (z : Sizes) (cells : List ℕ) (g : ℕ → Ghost) (σ : ℕ → Slot) (now : Moment limits z cells g σ) where
   -- what a judgement leads to
   abbrev Leads : Step → Result Effect Refusal → Type 0
-  Leads st e = AfterStep (limits_of cells) z g σ st (mapped answer_of e) (left_by (settled z cells) cells e)
+  Leads st e = AfterStep limits z g σ st (mapped answer_of e) (left_by (settled z cells) cells e)
 
   leads_refused : (st : Step) (n : Refusal) → Leads st (Err n)
-  leads_refused st n = refused_next (limits_of cells) z cells g σ now st n
+  leads_refused st n = refused_next limits z cells g σ now st n
 
   leads_effect
       : (st : Step) → places_fit (sizes_of cells) st ≡ true → command_fits (limits_of cells) st ≡ true
@@ -158,7 +158,8 @@ module _ (z : Sizes) (cells : List ℕ) (g : ℕ → Ghost) (σ : ℕ → Slot) 
   leads_effect st b c =
       let same = now.whole.sizes in
       subst (λ (y : Sizes). Leads st (effect_of y cells st)) (sym same)
-      (effect_next (limits_of cells) z cells g σ now st (ap (λ (y : Sizes). places_fit y st) (sym same) ∙ b) c)
+      (effect_next limits z cells g σ now st (ap (λ (y : Sizes). places_fit y st) (sym same) ∙ b)
+      (ap (λ (l : List ℕ). command_fits l st) (sym now.whole.table) ∙ c))
 
   leads_judged : (st : Step) → Leads st (judged cells st)
   leads_judged st =
@@ -177,13 +178,13 @@ module _ (z : Sizes) (cells : List ℕ) (g : ℕ → Ghost) (σ : ℕ → Slot) 
   -- the effect is stored by the room's own sizes
   stored
       : (st : Step) (e : Result Effect Refusal) → Leads st e
-      → AfterStep (limits_of cells) z g σ st (mapped answer_of e) (left_by (settled (sizes_of cells) cells) cells e)
+      → AfterStep limits z g σ st (mapped answer_of e) (left_by (settled (sizes_of cells) cells) cells e)
   stored st e l =
-      subst (λ (y : Sizes). AfterStep (limits_of cells) z g σ st (mapped answer_of e) (left_by (settled y cells) cells e))
+      subst (λ (y : Sizes). AfterStep limits z g σ st (mapped answer_of e) (left_by (settled y cells) cells e))
       (sym now.whole.sizes) l
 
   -- a call leads from a moment to the next
-  pub next : (c : Call) → After (limits_of cells) z g σ (event_of cells c) (called cells c)
+  pub next : (c : Call) → After limits z g σ (event_of cells c) (called cells c)
   unfolding answered stepped put_answered put_cells output_by
   next (Steps st) = stored st (judged cells st) (leads_judged st)
   next (Asks p) =

@@ -17,7 +17,7 @@ use Rattle.synod.specs.Slot.{config_of}
 use Rattle.synod.proofs.Invariant.{begins}
 use Rattle.layout.specs.Places.{base, room_length, server_at, nth_block_at, block_at, Fit, server_length, block_length}
 use Rattle.layout.proofs.CellLaws.{server_read, Block-read}
-use Rattle.layout.specs.Cells.{server_in, server_of, block_in, block_of}
+use Rattle.layout.specs.Cells.{limits_of, server_in, server_of, block_in, block_of}
 use Rattle.layout.proofs.PlaceLaws.{base_room, base_server, base_nth}
 use Rattle.range.specs.Range.{legal_drives, masks_of, value_fits, server_fits, block_fits}
 use Rattle.range.proofs.RecordLaws.{BlockIn, says_server, says_block, zero_fits}
@@ -59,9 +59,10 @@ opened-length z f =
 blank_in : (limits : List ℕ) → BlockIn limits blank
 blank_in limits = record { mbal = omega arith; bal = omega arith; inp = zero_fits limits; done = zero_fits limits }
 
-pub opens : (limits : List ℕ) (z : Sizes) → Fit z → Moment limits z (opened_cells z) (λ t. no_ghost) (λ t. blank_slot)
+pub opens : (z : Sizes) → Fit z → Moment (limits_of (opened_cells z)) z (opened_cells z) (λ t. no_ghost) (λ t. blank_slot)
 unfolding server_of block_of block_at
-opens limits z f =
+opens z f =
+    let limits = limits_of (opened_cells z) in
     record {
       whole =
           record {
@@ -79,6 +80,7 @@ opens limits z f =
                       ∙ says_block limits blank (blank_in limits);
                 };
             sizes = unfold opened_cells in refl;
+            table = refl;
           };
       alike =
           λ t h p l.

@@ -1,7 +1,7 @@
 -- What is read of a room after a record, a block or the off marks are stored: at the same place, and at any other slot,
 -- server and drive.
 use Prim.Native.Nat.{ℕ, ◌+◌, ◌*◌, ◌<◌, ◌≤◌, ◌/◌, ◌%◌}
-use mathlib.Core.Path.{◌≡◌, ◌∙◌, sym, ap}
+use mathlib.Core.Path.{◌≡◌, refl, ◌∙◌, sym, ap}
 use mathlib.Core.Bool.{true, ◌&&◌}
 use mathlib.Core.List.{List}
 use mathlib.Core.Logic.{inl, inr}
@@ -16,7 +16,7 @@ use Rattle.state.specs.declared.Block.{Block}
 use Rattle.state.specs.declared.Server.{Server}
 use Rattle.state.specs.declared.Sizes.{Sizes}
 use Rattle.layout.specs.Places.{base, server_length, block_length, room_length, server_at, nth_block_at, block_at, sizes_fit, Row}
-use Rattle.layout.specs.Cells.{put, sizes_of, is_row, off_of, off_at, server_cells, block_in, block_cells, server_of, put_server, block_of, put_block}
+use Rattle.layout.specs.Cells.{put, sizes_of, limits_of, is_row, off_of, off_at, server_cells, block_in, block_cells, server_of, put_server, block_of, put_block}
 use Rattle.layout.proofs.PlaceLaws.{Apart, fit_of, of_fit, row_head, server_within, block_within, nth_of, servers_apart, nths_apart, server_nth_apart, base_server, base_nth}
 use Rattle.layout.proofs.CellLaws.{Same, put-length, put_outside, server_same, block_same, apart_same, put_server_lem, put_block_lem}
 
@@ -74,6 +74,9 @@ module _ (z : Sizes) (r : List ℕ) (row : Row z r) where
     pub server_sizes : sizes_of (put_server z r s p v) ≡ sizes_of r
     server_sizes = head_same (put_server z r s p v) r server_head
 
+    pub server_limits : limits_of (put_server z r s p v) ≡ limits_of r
+    server_limits = refl
+
     pub server_off : off_of (put_server z r s p v) ≡ off_of r
     server_off = server_head off_at (omega arith)
 
@@ -121,6 +124,9 @@ module _ (z : Sizes) (r : List ℕ) (row : Row z r) where
 
     pub block_sizes : sizes_of (put_block z r s d p b) ≡ sizes_of r
     block_sizes = head_same (put_block z r s d p b) r block_head
+
+    pub block_limits : limits_of (put_block z r s d p b) ≡ limits_of r
+    block_limits = refl
 
     pub block_off : off_of (put_block z r s d p b) ≡ off_of r
     block_off = block_head off_at (omega arith)
@@ -171,6 +177,9 @@ module _ (z : Sizes) (r : List ℕ) (row : Row z r) where
         let b = get_or-set_other r off_at 1 m 0 (omega arith) in
         let c = get_or-set_other r off_at 2 m 0 (omega arith) in
         λ i. record { servers = a i; drives = b i; slots = c i }
+
+    pub off_limits : limits_of (set r off_at m) ≡ limits_of r
+    off_limits = refl
 
     -- the off marks are before every slot
     off_same : (at n : ℕ) → base ≤ at → Same (set r off_at m) r at n

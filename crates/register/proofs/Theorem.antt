@@ -64,16 +64,17 @@ from_opened : (z : Sizes) → Fit z → (calls : List Call) → OneHistory z (op
 unfolding commands_of
 from_opened z fit calls =
     let cells = opened_cells z in
-    let now = opens (limits_of cells) z fit in
+    let limits = limits_of cells in
+    let now = opens z fit in
     let first : ℕ → ℕ = λ t. first_output t (history cells calls) in
     record {
-      machines = follows z cells (λ t. no_ghost) (λ t. blank_slot) now calls;
+      machines = follows limits z cells (λ t. no_ghost) (λ t. blank_slot) now calls;
       catalogues =
           always_map (Shown z first) (AllShow z (leading first 0 z.slots)) (shows z first) cells calls
-          (shown z cells (λ t. no_ghost) (λ t. blank_slot) now calls first (λ t h. refl));
-      outputs = commits_output z cells (λ t. no_ghost) (λ t. blank_slot) now calls;
-      agreed = λ t h. all_commit z cells (λ t. no_ghost) (λ t. blank_slot) now calls t h (first t) refl;
-      offered = offered_earlier z cells (λ t. no_ghost) (λ t. blank_slot) now calls;
+          (shown limits z cells (λ t. no_ghost) (λ t. blank_slot) now calls first (λ t h. refl));
+      outputs = commits_output limits z cells (λ t. no_ghost) (λ t. blank_slot) now calls;
+      agreed = λ t h. all_commit limits z cells (λ t. no_ghost) (λ t. blank_slot) now calls t h (first t) refl;
+      offered = offered_earlier limits z cells (λ t. no_ghost) (λ t. blank_slot) now calls;
     }
 
 -- DEMAND 3

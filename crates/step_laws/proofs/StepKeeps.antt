@@ -92,9 +92,9 @@ module _ (limits : List ℕ) (z : Sizes) (r : List ℕ) (w : Whole limits z r) w
   effect_kept st e f = view_kept (view_of st) _ (ruling (rule_at z r st)) refl (in_view z st e) (rule_keeps st e f)
 
 whole_of : (r : List ℕ) → in_range r ≡ true → Whole (limits_of r) (sizes_of r) r
-whole_of r e = record { range = range_says r e; sizes = refl }
+whole_of r e = record { range = range_says r e; sizes = refl; table = refl }
 
--- a room in range is left in range, with its sizes and its length
+-- a room in range is left in range, with its sizes, its limits and its length
 pub step_whole : (r : List ℕ) (st : Step) → in_range r ≡ true → Whole (limits_of r) (sizes_of r) (stepped r st)
 unfolding stepped settled
 step_whole r st i =
@@ -107,7 +107,7 @@ step_whole r st i =
 pub step_in_range : (r : List ℕ) (st : Step) → in_range r ≡ true → in_range (stepped r st) ≡ true
 step_in_range r st i =
     let w = step_whole r st i in
-    Says-range (limits_of r) (sizes_of r) (stepped r st) refl (sym w.sizes) w.range
+    Says-range (limits_of r) (sizes_of r) (stepped r st) (sym w.table) (sym w.sizes) w.range
 
 pub step_length : (r : List ℕ) (st : Step) → in_range r ≡ true → length (stepped r st) ≡ length r
 step_length r st i =

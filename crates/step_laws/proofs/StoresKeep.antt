@@ -1,4 +1,4 @@
--- Storing a record, a block or off marks that are in range leaves a room in range, and its sizes as they were.
+-- Storing a record, a block or off marks that are in range leaves a room in range, and its sizes and limits as they were.
 use Prim.Native.Nat.{ℕ, zero, suc, ◌+◌, ◌*◌, ◌<◌, ◌≤◌}
 use mathlib.Core.Path.{◌≡◌, ◌∙◌, sym, ap}
 use mathlib.Core.Bool.{true}
@@ -13,9 +13,9 @@ use Rattle.state.specs.declared.Server.{Server}
 use Rattle.state.specs.declared.Sizes.{Sizes}
 use Rattle.state.specs.Server.{failed}
 use Rattle.layout.specs.Places.{nth_block_at, block_at}
-use Rattle.layout.specs.Cells.{sizes_of, off_at, server_of, block_of, block_in, put_server, put_block}
+use Rattle.layout.specs.Cells.{sizes_of, limits_of, off_at, server_of, block_of, block_in, put_server, put_block}
 use Rattle.layout.proofs.PlaceLaws.{row_head}
-use Rattle.layout.proofs.RoomLaws.{server_row, server_sizes, server_off, server_after_server, other_server_after_server, nth_after_server, block_row, block_sizes, block_off, block_after_block, other_nth_after_block, server_after_block, off_row, off_sizes, server_after_off, nth_after_off}
+use Rattle.layout.proofs.RoomLaws.{server_row, server_sizes, server_limits, server_off, server_after_server, other_server_after_server, nth_after_server, block_row, block_sizes, block_limits, block_off, block_after_block, other_nth_after_block, server_after_block, off_row, off_sizes, off_limits, server_after_off, nth_after_off}
 use Rattle.range.specs.Range.{legal_drives, masks_of, value_fits, server_fits, block_fits}
 use Rattle.range.proofs.Laws.{InRange}
 use Rattle.range.proofs.RecordLaws.{ServerIn, BlockIn, says_server, says_block}
@@ -31,10 +31,11 @@ by_place {X = X} s t p q same other = go (ℕ_discrete s t) (ℕ_discrete p q)
     go (yes a) (no b) = other (λ e f. b f)
     go (no a) d = other (λ e f. a e)
 
--- a room in range of the sizes that it claims
+-- a room in range of the sizes and by the limits that it claims
 pub record Whole (limits : List ℕ) (z : Sizes) (r : List ℕ) : Type 0 where
   pub range : InRange limits z r
   pub sizes : sizes_of r ≡ z
+  pub table : limits_of r ≡ limits
 
 module _ (limits : List ℕ) (z : Sizes) where
   pub server_kept
@@ -64,6 +65,7 @@ module _ (limits : List ℕ) (z : Sizes) where
                   ap (block_fits (value_fits limits)) (nth_after_server z r row s p v t j l m) ∙ w.range.nths t j k m;
             };
         sizes = server_sizes z r row s p v ∙ w.sizes;
+        table = server_limits z r row s p v ∙ w.table;
       }
 
   pub block_kept
@@ -94,6 +96,7 @@ module _ (limits : List ℕ) (z : Sizes) where
                   ap (block_fits (value_fits limits)) (other_nth_after_block z r row s d p b t j l k n e) ∙ w.range.nths t j m n);
             };
         sizes = block_sizes z r row s d p b ∙ w.sizes;
+        table = block_limits z r row s d p b ∙ w.table;
       }
 
   pub off_kept : (r : List ℕ) → Whole limits z r → (m : ℕ) → within m (legal_drives z) ≡ true → Whole limits z (set r off_at m)
@@ -113,6 +116,7 @@ module _ (limits : List ℕ) (z : Sizes) where
               nths = λ t j h l. ap (block_fits (value_fits limits)) (nth_after_off z r row m t j) ∙ w.range.nths t j h l;
             };
         sizes = off_sizes z r row m ∙ w.sizes;
+        table = off_limits z r row m ∙ w.table;
       }
 
   pub failure_kept
