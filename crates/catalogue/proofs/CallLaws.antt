@@ -17,17 +17,17 @@ use Rattle.layout.specs.Cells.{sizes_of, limits_of}
 use Rattle.range.specs.Range.{in_range}
 use Rattle.range.proofs.Laws.{range_says}
 use Rattle.catalogue.specs.Fold.{pieces}
-use Rattle.catalogue.specs.Call.{entries_of, counted, catalogue_checks, catalogue_of, catalogue_cells, Taken}
+use Rattle.catalogue.specs.Call.{entries_of, counted, catalogue_checks, catalogue_of, catalogue_cells, NamesPieces}
 use Rattle.catalogue.specs.declared.Counts.{Counts}
 use Rattle.catalogue.proofs.OutputLaws.{output_piece}
 
 -- a room in range has outputs that can be listed; its cells and its sizes are those of a room as a type
-pub listable
+pub names_pieces
     : (room cells : List ℕ) (z : Sizes) (p : ℕ) → in_range room ≡ true → cells ≡ room → z ≡ sizes_of cells
-    → ltb p z.servers ≡ true → Taken z cells p
-listable room cells z p range same e =
+    → ltb p z.servers ≡ true → NamesPieces z cells p
+names_pieces room cells z p range same e =
     rw same
-    (subst⁻¹ (λ (y : Sizes). ltb p y.servers ≡ true → Taken y room p) (e ∙ ap sizes_of same)
+    (subst⁻¹ (λ (y : Sizes). ltb p y.servers ≡ true → NamesPieces y room p) (e ∙ ap sizes_of same)
     (λ b.
     let h = ltb-true p (sizes_of room).servers b in
     record { server = h; within = λ s l. output_piece (limits_of room) (sizes_of room) room (range_says room range) p h s l }))

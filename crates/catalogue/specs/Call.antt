@@ -37,7 +37,7 @@ unfoldable pub catalogue_cells : List ℕ → ℕ → List ℕ → List ℕ
 catalogue_cells room server out =
     left_by (λ c. (entries_of (sizes_of room) room server).cells) out (catalogue_of room server out)
 
--- what the loop over the slots needs beside a room
-pub record Taken (z : Sizes) (room : List ℕ) (p : ℕ) : Type 0 where
+-- what the loop over the slots needs beside a room: the server is in it, and each of its outputs names a piece
+pub record NamesPieces (z : Sizes) (room : List ℕ) (p : ℕ) : Type 0 where
   pub server : p < z.servers
   pub within : (s : ℕ) → s < z.slots → piece_of (output_at z room p s) < pieces

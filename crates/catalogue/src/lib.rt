@@ -5,7 +5,7 @@ ghost use Rattle.std.specs.Prelude.{◌≡◌, ◌<◌, cond, replicate, Some, N
 ghost use Rattle.command.specs.Command.{kind_of, piece_of, hoard_of};
 ghost use Rattle.catalogue.specs.Entry.{entered, applies, skips, changed};
 ghost use Rattle.catalogue.specs.Fold.{pieces, cell_of, cells_after};
-ghost use Rattle.catalogue.specs.Call.{Taken, entries_of, counted, catalogue_of, catalogue_cells};
+ghost use Rattle.catalogue.specs.Call.{NamesPieces, entries_of, counted, catalogue_of, catalogue_cells};
 
 use checks::Refusal;
 use command::kinds::Kind;
@@ -27,7 +27,7 @@ pub struct Counts {
 // Writes each piece's hoard, 0 if it has none, STRUCK if it was struck, as the outputs of one server give it. Refused with
 // 2 where out is not 64 cells, 3 where the row is no room in range, and 4 where the server is beyond the room; then no
 // cell changes.
-#[tactic(auto, using(crate::proofs::CallLaws::listable), unfolding(checks::specs::Checks::must, crate::specs::Call::catalogue_of, crate::specs::Call::catalogue_cells, crate::specs::Call::catalogue_checks))]
+#[tactic(auto, using(crate::proofs::CallLaws::names_pieces), unfolding(checks::specs::Checks::must, crate::specs::Call::catalogue_of, crate::specs::Call::catalogue_cells, crate::specs::Call::catalogue_checks))]
 pub fn catalogue(room: &[u32], server: u32, out: &mut [u32]) -> Result<Counts, Refusal>
     ensures { (result ≡ catalogue_of room.now server out.old)
         × (out.new ≡ catalogue_cells room.now server out.old) }
@@ -52,7 +52,7 @@ pub fn entered(cell: u32) -> bool
 // A loop and no iterator: a rule of the project prescribes one that is left by break with the number taken.
 #[tactic(auto, using(crate::proofs::ListLaws::last_slot, crate::proofs::ListLaws::last_output), unfolding(crate::specs::Outputs::output_at))]
 fn list(room: &Room, p: u32, out: &mut [u32; PIECES]) -> Counts
-    requires { Taken room.now.sizes room.now.cells.now p × (out.old ≡ replicate pieces 0) }
+    requires { NamesPieces room.now.sizes room.now.cells.now p × (out.old ≡ replicate pieces 0) }
     ensures { (result ≡ counted room.now.sizes room.now.cells.now p)
         × (out.new ≡ (entries_of room.now.sizes room.now.cells.now p).cells) }
 {

@@ -4,7 +4,7 @@
 mod fours;
 mod values;
 
-ghost use Rattle.std.specs.Prelude.{◌≡◌, ◌*◌, ◌≤◌, true, false, length, MatchResult};
+ghost use Rattle.std.specs.Prelude.{◌≡◌, ◌*◌, true, false, length, MatchResult};
 ghost use Rattle.std.specs.List.{list_all};
 ghost use Rattle.command.specs.Tops.{value_by};
 ghost use Rattle.checks.specs.declared.Refusal.TheVariants.{OutOfRange};

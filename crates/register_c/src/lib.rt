@@ -15,7 +15,7 @@ ghost use Rattle.record.specs.Read.{reading_of};
 ghost use Rattle.record.specs.Write.{writing_from, written_from};
 ghost use Rattle.catalogue.specs.Call.{catalogue_of, catalogue_cells};
 ghost use Rattle.register_c.specs.Packing.{packed, packed_by, packed_answer, packed_number, packed_listing, packed_reading};
-ghost use Rattle.register_c.specs.Calls.{record_answered, record_stepped, field_cells, fields_reading, fields_read};
+ghost use Rattle.register_c.specs.Calls.{record_answered, record_stepped, fields_reading, fields_read};
 
 use register::{Fields, Refusal};
 use state::{Answer, Sizes};
