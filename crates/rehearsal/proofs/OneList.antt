@@ -4,14 +4,11 @@ use mathlib.Core.Path.{◌≡◌, ◌∙◌, sym, ap, ap₂, subst}
 use mathlib.Core.Bool.{true}
 use mathlib.Core.List.{List}
 use lib.ListN.{length, take, replicate, length-replicate}
-use borrow.Author.Tests.{eq-eqb}
 use Rattle.std.specs.Prelude.{Ok}
 use Rattle.checks.specs.Refusals.{refusal_in}
 use Rattle.state.specs.declared.Sizes.{Sizes}
 use Rattle.state.specs.declared.Step.{Step}
 use Rattle.layout.specs.Places.{sizes_fit, room_length}
-use Rattle.room.specs.Open.{opened_cells}
-use Rattle.room.proofs.OpenLaws.{opens_room}
 use Rattle.history.specs.Calls.{all_steps}
 use Rattle.history.specs.Run.{ran, history}
 use Rattle.history.proofs.Always.{at_last}
@@ -21,7 +18,8 @@ use Rattle.catalogue.proofs.AnswerLaws.{accepted_is}
 use Rattle.register.specs.OneHistory.{commands_of, AllShow, OneHistory}
 use Rattle.register.proofs.Theorem.{one_history}
 use Rattle.transcript.specs.Lines.{server_line}
-use Rattle.rehearsal.specs.Rehearsal.{counts_line, line_of}
+use Rattle.rehearsal.specs.Rehearsal.{opened_room, counts_line, line_of}
+use Rattle.rehearsal.proofs.OpenedLaws.{opens_exact}
 
 -- a server's line after a run: k commands of the list are taken, and so many of these are skipped
 pub record Tells (commands room : List ℕ) (p : ℕ) : Type 0 where
@@ -31,21 +29,21 @@ pub record Tells (commands room : List ℕ) (p : ℕ) : Type 0 where
 
 module _ (z : Sizes) (fits : sizes_fit z ≡ true) (steps : List Step) where
   -- demand 3 where every call is a step
-  one : OneHistory z (opened_cells z) (all_steps steps)
+  one : OneHistory z (opened_room z) (all_steps steps)
   one =
       let row : List ℕ = replicate (room_length z) 0 in
-      let o = opens_room z row fits (eq-eqb (length row) (room_length z) (length-replicate (room_length z) 0)) in
+      let o = opens_exact z row fits (length-replicate (room_length z) 0) in
       subst (λ (cells : List ℕ). OneHistory z cells (all_steps steps)) (sym o.leaves)
       (one_history z row (ap refusal_in (sym o.answers)) (all_steps steps))
 
   pub one_list
       : (p : ℕ) → p < z.servers
-      → Tells (commands_of z (history (opened_cells z) (all_steps steps))) (ran (opened_cells z) (all_steps steps)) p
+      → Tells (commands_of z (history (opened_room z) (all_steps steps))) (ran (opened_room z) (all_steps steps)) p
   unfolding line_of counts_line
   one_list p h =
-      let commands = commands_of z (history (opened_cells z) (all_steps steps)) in
-      let all = at_last (AllShow z commands) (opened_cells z) (all_steps steps) one.catalogues in
+      let commands = commands_of z (history (opened_room z) (all_steps steps)) in
+      let all = at_last (AllShow z commands) (opened_room z) (all_steps steps) one.catalogues in
       let s = all p h (replicate pieces 0) (length-replicate {A = ℕ} pieces 0) in
-      let room = ran (opened_cells z) (all_steps steps) in
+      let room = ran (opened_room z) (all_steps steps) in
       let told = accepted_is room p (replicate pieces 0) s.accepted ∙ ap₂ (λ (k n : ℕ). Ok (counts k n)) s.taken s.skipped in
       record { k = s.k; some = s.some; line = ap (counts_line p) told }

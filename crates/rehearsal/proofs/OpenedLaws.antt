@@ -14,13 +14,13 @@ use Rattle.layout.proofs.PlaceLaws.{fit_of}
 use Rattle.std.specs.Prelude.{Ok, Err}
 use Rattle.checks.specs.declared.Refusal.{Refusal}
 use Rattle.checks.specs.Refusals.{refusal_number, refusal_in}
-use Rattle.room.specs.Open.{opening, opened, opened_cells}
-use Rattle.room.proofs.OpenLaws.{opens_1, opens_room, accepted}
+use Rattle.room.specs.Open.{opening, opened}
+use Rattle.room.proofs.OpenLaws.{Opens, opens_1, opens_room, accepted}
 use Rattle.transcript.specs.Lines.{line_max, open_line, Prints}
 use Rattle.transcript.specs.declared.Transcript.{Transcript}
 use Rattle.transcript.proofs.LineLaws.{open_max}
 use Rattle.rehearsal.specs.Script.{Script, script}
-use Rattle.rehearsal.specs.Rehearsal.{record_lines, room_after, server_lines, run_text, input_max, rehearsal}
+use Rattle.rehearsal.specs.Rehearsal.{record_lines, room_after, server_lines, opened_room, run_text, input_max, rehearsal}
 use Rattle.rehearsal.specs.Buffer.{record_max, step_max, text_max, HasLeft, Adds}
 use Rattle.rehearsal.proofs.BufferLaws.{adds_line, adds_more}
 
@@ -31,6 +31,10 @@ one_line
 one_line k fits room p = adds_more (omega arith) (adds_line p (omega arith) (open_max k fits) (omega arith))
 
 module _ (z : Sizes) (row : List ℕ) where
+  -- where the sizes fit and the row is exact, so is all that open asks
+  pub opens_exact : sizes_fit z ≡ true → length row ≡ room_length z → Opens z row (Ok tt) (opened_room z)
+  opens_exact fits exact = opens_room z row fits (eq-eqb (length row) (room_length z) exact)
+
   pub opened_fits : opening z row ≡ Ok tt → sizes_fit z ≡ true
   opened_fits e = (accepted z row (ap refusal_in e)).fits
 
@@ -39,7 +43,7 @@ module _ (z : Sizes) (row : List ℕ) where
   refused_is {n} exact e =
       by_test (sizes_fit z)
       (λ a.
-      let b = (opens_room z row a (eq-eqb (length row) (room_length z) (exact ∙ ap (λ (x : Bool). cond x (room_length z) 0) a))).answers in
+      let b = (opens_exact a (exact ∙ ap (λ (x : Bool). cond x (room_length z) 0) a)).answers in
       let c : ◌≡◌ {A = ℕ} 0 1 = cc in
       absurd (omega arith))
       (λ a. (a, ap refusal_in ((opens_1 z row a).answers ∙ e)))
@@ -54,8 +58,8 @@ module _ (z : Sizes) (row : List ℕ) where
   opened_text {cells} {after} {start} {text} s e same then a =
       let fits = opened_fits e in
       let few = (fit_of z fits).servers in
-      let is : cells ≡ opened_cells z = same ∙ (accepted z row (ap refusal_in e)).room in
-      let whole = record_lines 0 (opened_cells z) s ++ server_lines (room_after (opened_cells z) s) z.servers in
+      let is : cells ≡ opened_room z = same ∙ (accepted z row (ap refusal_in e)).room in
+      let whole = record_lines 0 (opened_room z) s ++ server_lines (room_after (opened_room z) s) z.servers in
       let text_is : record_lines 0 cells s ++ server_lines after z.servers ≡ run_text z s =
       ap (λ (r : List ℕ). record_lines 0 cells s ++ server_lines r z.servers) then
       ∙ ap (λ (r : List ℕ). record_lines 0 r s ++ server_lines (room_after r s) z.servers) is
@@ -69,7 +73,7 @@ module _ (z : Sizes) (row : List ℕ) where
   refused_text {start} {text} {n} {k} s exact e room told p =
       let is = refused_is exact e in
       let one : 1 ≡ k = is.1 ∙ sym told in
-      let whole = record_lines 0 (opened_cells z) s ++ server_lines (room_after (opened_cells z) s) z.servers in
+      let whole = record_lines 0 (opened_room z) s ++ server_lines (room_after (opened_room z) s) z.servers in
       let text_is : open_line k ≡ run_text z s =
       ap open_line (sym one) ∙ sym (ap (λ (b : Bool). cond b whole (open_line 1)) is.0) in
       subst (λ (l : List ℕ). Adds start l text text_max) text_is (one_line k (omega arith) room p)

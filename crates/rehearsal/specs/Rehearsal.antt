@@ -52,11 +52,15 @@ unfoldable pub server_lines : List ℕ → ℕ → List ℕ
 server_lines room zero = []
 server_lines room (suc n) = server_lines room n ++ line_of room n
 
+-- the room that rehearse opens
+abbrev pub opened_room : Sizes → List ℕ
+opened_room z = opened_cells z
+
 -- what a room of these sizes prints for a script: the lines of the records, then those of the servers; sizes that do not
 -- fit print one line
 unfoldable pub run_text : Sizes → Script → List ℕ
 run_text z s =
-    let room = opened_cells z in
+    let room = opened_room z in
     cond (sizes_fit z) (record_lines 0 room s ++ server_lines (room_after room s) z.servers) (open_line 1)
 
 -- the most bytes of an input

@@ -23,8 +23,8 @@ use Rattle.room.specs.Open.{opening}
 use Rattle.room.proofs.OpenLaws.{Opens, opens_1}
 use Rattle.state.specs.Sizes.{sizes}
 use Rattle.state.specs.Answers.{code_of, number_of}
-use Rattle.starred.specs.Runs.{new_room, same_answer}
-use Rattle.starred.specs.Cases.{Case, Length, Unopened, Command, NoCommand, Owned, Majority, Run, offered, IsCommand, IsUnopened, Says, is_unopened, holds}
+use Rattle.starred.specs.Runs.{same_answer}
+use Rattle.starred.specs.Cases.{Case, Length, Unopened, Command, NoCommand, Owned, Majority, Run, small_room, offered, IsCommand, IsUnopened, Says, is_unopened, holds}
 use Rattle.starred.proofs.RunLaws.{both, same_answer_lem, run_says}
 
 implied : (a b : Bool) → (not a || b) ≡ true → a ≡ true → b ≡ true
@@ -99,4 +99,4 @@ case_says (Owned n b p) e =
     (t.0, λ q h o. eqb-true q p (implied (owned n q b) (eqb q p) (all_at n only t.1 q h) o))
 case_says (Majority d counts) e =
     λ m h. alike (majority d (stands m)) (counts m) (all_at (2 ^ d) (λ k. beq (majority d (stands k)) (counts k)) e m h)
-case_says (Run n d run) e = run_says (new_room (sizes n d 1)) run e
+case_says (Run n d run) e = run_says (small_room n d) run e

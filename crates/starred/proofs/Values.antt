@@ -22,8 +22,8 @@ use Rattle.room.specs.Open.{opening}
 use Rattle.room.specs.Step.{answered, stepped}
 use Rattle.state.specs.Sizes.{sizes}
 use Rattle.state.specs.Block.{block}
-use Rattle.starred.specs.Runs.{new_room, ◌↝◌, Own, own, Replays, last_cells}
-use Rattle.starred.specs.Cases.{offered}
+use Rattle.starred.specs.Runs.{◌↝◌, Own, own, Replays, last_cells}
+use Rattle.starred.specs.Cases.{small_room, offered}
 use Rattle.starred.specs.Starred.{met, proposed, recalled, starred}
 use Rattle.starred.proofs.RunLaws.{later}
 use Rattle.starred.proofs.Table.{starred_says}
@@ -66,28 +66,28 @@ unfolding starred
 majority_of_7 = starred_says 10
 
 -- server 1 at 2 reads server 2's block on drive 0: what follows
-finds_7 : Replays (last_cells (new_room (sizes 4 1 1)) met) (Read 1 0 0 2 ↝ Ok (Outbid 7) ∷ Own 1 (block 10 0 0) ∷ [])
+finds_7 : Replays (last_cells (small_room 4 1) met) (Read 1 0 0 2 ↝ Ok (Outbid 7) ∷ Own 1 (block 10 0 0) ∷ [])
 unfolding starred
-finds_7 = later (new_room (sizes 4 1 1)) met (Read 1 0 0 2 ↝ Ok (Outbid 7) ∷ Own 1 (block 10 0 0) ∷ []) (starred_says 11)
+finds_7 = later (small_room 4 1) met (Read 1 0 0 2 ↝ Ok (Outbid 7) ∷ Own 1 (block 10 0 0) ∷ []) (starred_says 11)
 
-pub outbid_by_7 : answered (last_cells (new_room (sizes 4 1 1)) met) (Read 1 0 0 2) ≡ Ok (Outbid 7)
+pub outbid_by_7 : answered (last_cells (small_room 4 1) met) (Read 1 0 0 2) ≡ Ok (Outbid 7)
 unfolding Replays
 outbid_by_7 = finds_7.0
 
-pub now_10 : own (stepped (last_cells (new_room (sizes 4 1 1)) met) (Read 1 0 0 2)) 1 ≡ block 10 0 0
+pub now_10 : own (stepped (last_cells (small_room 4 1) met) (Read 1 0 0 2)) 1 ≡ block 10 0 0
 unfolding Replays
 now_10 = finds_7.1.0
 
 -- server 0's own block after the two recalls and Rejoin 3
 abbrev pub rejoined_by : ℕ → ℕ → Block
-rejoined_by first second = own (last_cells (new_room (sizes 2 2 1)) (proposed ++ recalled first second)) 0
+rejoined_by first second = own (last_cells (small_room 2 2) (proposed ++ recalled first second)) 0
 
 pub inp_on_the_first : rejoined_by 0 1 ≡ block 3 1 66825
 unfolding starred Replays
 inp_on_the_first =
-    (later (new_room (sizes 2 2 1)) (proposed ++ recalled 0 1) (Own 0 (block 3 1 66825) ∷ []) (starred_says 12)).0
+    (later (small_room 2 2) (proposed ++ recalled 0 1) (Own 0 (block 3 1 66825) ∷ []) (starred_says 12)).0
 
 pub inp_on_the_second : rejoined_by 1 0 ≡ block 3 1 66825
 unfolding starred Replays
 inp_on_the_second =
-    (later (new_room (sizes 2 2 1)) (proposed ++ recalled 1 0) (Own 0 (block 3 1 66825) ∷ []) (starred_says 13)).0
+    (later (small_room 2 2) (proposed ++ recalled 1 0) (Own 0 (block 3 1 66825) ∷ []) (starred_says 13)).0

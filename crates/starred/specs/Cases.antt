@@ -34,9 +34,13 @@ pub data Case : Type 0 where
   -- a run in a room of so many servers and drives
   Run : (servers drives : ℕ) → List Line → Case
 
--- what the smallest room, just opened, answers to an Offer of v
+-- a room of one slot, just opened
+abbrev pub small_room : ℕ → ℕ → List ℕ
+small_room servers drives = new_room (sizes servers drives 1)
+
+-- what the smallest answers to an Offer of v
 abbrev pub offered : ℕ → Answered
-offered v = answered (new_room (sizes 1 1 1)) (Offer 0 0 v)
+offered v = answered (small_room 1 1) (Offer 0 0 v)
 
 -- the tests of mark cells: any set of so many drives or more, and one of the sets listed
 abbrev pub at_least : ℕ → ℕ → Bool
@@ -67,7 +71,7 @@ Says (Command v k p h) = IsCommand v k p h
 Says (NoCommand v number) = (is_command cabinet_limits v ≡ false) × (code_of (offered v) ≡ 4) × (number_of (offered v) ≡ number)
 Says (Owned n b p) = (owned n p b ≡ true) × ((q : ℕ) → q < n → owned n q b ≡ true → q ≡ p)
 Says (Majority d counts) = (m : ℕ) → m < 2 ^ d → majority d (stands m) ≡ counts m
-Says (Run n d run) = Replays (new_room (sizes n d 1)) run
+Says (Run n d run) = Replays (small_room n d) run
 
 -- A number of servers that does not fit with one drive and one slot fits with no others, and sizes that do not fit are
 -- refused before the row is looked at: the smallest drives and slots and the empty row show the number for all.
@@ -84,7 +88,7 @@ holds (Command v k p h) =
 holds (NoCommand v number) = not (is_command cabinet_limits v) && (eqb (code_of (offered v)) 4 && eqb (number_of (offered v)) number)
 holds (Owned n b p) = owned n p b && all_below n (λ q. not (owned n q b) || eqb q p)
 holds (Majority d counts) = all_below (2 ^ d) (λ m. beq (majority d (stands m)) (counts m))
-holds (Run n d run) = replays (new_room (sizes n d 1)) run
+holds (Run n d run) = replays (small_room n d) run
 
 -- every case of a list passes its test
 unfoldable pub all_hold : List Case → Bool
