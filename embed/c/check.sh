@@ -1,6 +1,6 @@
 #!/bin/sh
-# Builds the example and the tests against the proved library with the warnings on, runs them, and compares what the
-# example prints. The header must be taken by C99 and C++ too.
+# Builds the examples and the tests against the proved library with the warnings on, runs them, and compares what the
+# examples print. The header must be taken by C99 and C++ too.
 # The library is made by `rt lib` in the folder crates/register_c, or lies in the folder REGISTER_LIB_DIR.
 set -eu
 cd "$(dirname "$0")"
@@ -10,10 +10,11 @@ if [ ! -f "$library" ]; then
     exit 1
 fi
 mkdir -p target
-tests='test test_free_slots test_learning'
+examples='example example_limits'
+tests='test test_free_slots test_learning test_limits'
 warnings='-Wall -Wextra -Wpedantic -Wconversion -Wsign-conversion -Wshadow -Werror'
 # shellcheck disable=SC2086
-for program in example $tests; do
+for program in $examples $tests; do
     ${CC:-gcc} -std=c11 -O2 $warnings -Wstrict-prototypes -o "target/$program" "$program.c" "$library"
 done
 for program in $tests; do
@@ -27,10 +28,12 @@ for program in $tests; do
         exit 1
     fi
 done
-target/example >target/printed
-if ! cmp -s expected target/printed; then
-    echo "embed/c: the example prints something else than embed/c/expected:" >&2
-    cat target/printed >&2
-    exit 1
-fi
-echo "embed/c: the header's promises hold, and the example prints what is expected"
+for program in $examples; do
+    expected=expected${program#example}
+    if ! "target/$program" >target/printed || ! cmp -s "$expected" target/printed; then
+        echo "embed/c: $program fails, or prints something else than embed/c/$expected:" >&2
+        cat target/printed >&2
+        exit 1
+    fi
+done
+echo "embed/c: the header's promises hold, and the examples print what is expected"

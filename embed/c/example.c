@@ -121,8 +121,9 @@ static int catalogue(uint32_t server)
 
 int main(void)
 {
+    static const uint32_t limits[REGISTER_CABINETS] = REGISTER_USUAL_LIMITS;
     cells = register_length(SERVERS, DRIVES, SLOTS);
-    uint32_t refusal = register_open(room, cells, SERVERS, DRIVES, SLOTS);
+    uint32_t refusal = register_open(room, cells, SERVERS, DRIVES, SLOTS, limits, REGISTER_CABINETS);
     if (refusal != 0)
         return refused("open", refusal);
     printf("a room of %zu cells\n", cells);

@@ -22,9 +22,10 @@
 extern "C" {
 #endif
 
-/* The most cells of a room, the cells of a catalogue, the bytes of the longest record,
- * the fields of a record. */
-#define REGISTER_MOST_CELLS 2500
+/* The most cells of a room, the cabinets of a museum, the cells of a catalogue, the bytes of
+ * the longest record, the fields of a record. */
+#define REGISTER_MOST_CELLS 2508
+#define REGISTER_CABINETS 8
 #define REGISTER_PIECES 64
 #define REGISTER_LONGEST_RECORD 8
 #define REGISTER_FIELDS 6
@@ -59,6 +60,7 @@ extern "C" {
 #define REGISTER_E_MALFORMED 15u
 #define REGISTER_E_NOT_FREE 16u
 #define REGISTER_E_NO_FREE_SLOT 17u
+#define REGISTER_E_LIMITS 18u
 
 /* A sentence for a refusal, "unknown refusal" for any other number. */
 static inline const char *register_message(uint32_t refusal)
@@ -73,7 +75,7 @@ static inline const char *register_message(uint32_t refusal)
     case REGISTER_E_BEYOND:
         return "a server, slot or drive is beyond the room, or the other server is the server itself";
     case REGISTER_E_NOT_A_COMMAND:
-        return "the number is not a command";
+        return "the number is not a command, or the cabinet has no such hoard";
     case REGISTER_E_NOT_ITS_BALLOT:
         return "the ballot is 0, above 1,000,000 or another server's";
     case REGISTER_E_WRONG_PHASE:
@@ -98,6 +100,8 @@ static inline const char *register_message(uint32_t refusal)
         return "the slot is not free: the server offers a command there or has settled it";
     case REGISTER_E_NO_FREE_SLOT:
         return "no slot is free for the server";
+    case REGISTER_E_LIMITS:
+        return "the limit of a cabinet is not 1 to 255";
     default:
         return "unknown refusal";
     }
@@ -117,10 +121,16 @@ static inline const char *register_message(uint32_t refusal)
 #define REGISTER_DRIVE_OFF 9u
 #define REGISTER_DRIVE_ON 10u
 
+/* The limits of the cabinets: the largest hoard of each, 1 to 255. Cabinet c has the
+ * pieces from 8c to 8c + 7. A room keeps those that it is opened with, and so one number may
+ * be a command in one room and none in another. Here are the usual ones, as the initialiser
+ * of an array of REGISTER_CABINETS numbers. */
+#define REGISTER_USUAL_LIMITS {255u, 255u, 200u, 200u, 120u, 120u, 60u, 60u}
+
 /* Commands: a piece (0 to 63) enters a hoard, moves to another, is struck. 0, which is
  * no command, where the piece is above 63 or the hoard above 255; whether the cabinet
- * of the piece has such a hoard is judged where the command is offered. An argument is
- * evaluated more than once. */
+ * of the piece has such a hoard is judged by the room where the command is offered. An
+ * argument is evaluated more than once. */
 #define REGISTER_ENTER(piece, hoard) REGISTER_COMMAND(1u, piece, hoard)
 #define REGISTER_MOVE(piece, hoard) REGISTER_COMMAND(2u, piece, hoard)
 #define REGISTER_STRIKE(piece) REGISTER_COMMAND(3u, piece, 0u)
@@ -141,6 +151,10 @@ static inline const char *register_message(uint32_t refusal)
 
 /* The cell of the off marks: bit d says that drive d is off. */
 #define REGISTER_OFF_MARKS 3u
+
+/* The first of the eight cells with the limits of the cabinets. No call but register_open
+ * changes them. */
+#define REGISTER_LIMITS 4u
 
 /* The cells of a server's record, counted from the first. Agreed is the command that was
  * settled, 0 if the server has settled and learned none; in phase 3 it is what a catalogue
@@ -176,9 +190,12 @@ uint32_t register_server_at(uint32_t servers, uint32_t drives, uint32_t slots, u
 uint32_t register_block_at(uint32_t servers, uint32_t drives, uint32_t slots, uint32_t server, uint32_t slot,
                            uint32_t drive);
 
-/* Makes the row a new room of these sizes; what it held is not heeded. It has `cells`
- * cells, as many as register_length says. Answers 0, or the refusal: 1, 2. */
-uint32_t register_open(uint32_t *row, size_t cells, uint32_t servers, uint32_t drives, uint32_t slots);
+/* Makes the row a new room of these sizes, whose cabinets have these limits; what it held
+ * is not heeded. It has `cells` cells, as many as register_length says, and there are
+ * `count` limits, which must be 8 and lie outside the row. Answers 0, or the refusal: 1, 2
+ * or 18. */
+uint32_t register_open(uint32_t *row, size_t cells, uint32_t servers, uint32_t drives, uint32_t slots,
+                       const uint32_t *limits, size_t count);
 
 /* Takes the step of the record at `bytes`, of which there are `length`; bytes beyond
  * the record are ignored. The answer's word is done, outbid, chosen, committed or

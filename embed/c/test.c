@@ -22,14 +22,14 @@ static void commands(void)
 
 static void messages(void)
 {
-    for (uint32_t refusal = 1; refusal <= 17; refusal++) {
+    for (uint32_t refusal = 1; refusal <= 18; refusal++) {
         CHECK(strlen(register_message(refusal)) > 10);
         CHECK(strcmp(register_message(refusal), "unknown refusal") != 0);
         for (uint32_t lower = 1; lower < refusal; lower++)
             CHECK(strcmp(register_message(refusal), register_message(lower)) != 0);
     }
     CHECK(strcmp(register_message(0), "unknown refusal") == 0);
-    CHECK(strcmp(register_message(18), "unknown refusal") == 0);
+    CHECK(strcmp(register_message(19), "unknown refusal") == 0);
     CHECK(strcmp(register_message(UINT32_MAX), "unknown refusal") == 0);
 }
 
@@ -37,7 +37,7 @@ static void messages(void)
  * other, and what is beyond the room has no place. */
 static void places(uint32_t n, uint32_t d, uint32_t s)
 {
-    uint32_t at = 4;
+    uint32_t at = 12;
     for (uint32_t slot = 0; slot < s; slot++) {
         for (uint32_t server = 0; server < n; server++, at += REGISTER_SERVER_AGREED + 1)
             CHECK(register_server_at(n, d, s, server, slot) == at);
@@ -63,8 +63,8 @@ static void sizes(void)
         for (uint32_t d = 1; d <= 7; d++)
             for (uint32_t s = 1; s <= 16; s++)
                 places(n, d, s);
-    CHECK(register_length(1, 1, 1) == 19 && register_length(4, 7, 16) == 2500);
-    CHECK(REGISTER_MOST_CELLS == 2500);
+    CHECK(register_length(1, 1, 1) == 27 && register_length(4, 7, 16) == 2508);
+    CHECK(REGISTER_MOST_CELLS == 2508);
     for (uint32_t n = 0; n <= 5; n++)
         for (uint32_t d = 0; d <= 8; d++)
             for (uint32_t s = 0; s <= 17; s++)
@@ -75,15 +75,15 @@ static void sizes(void)
                 }
 }
 
-/* A room of two servers, one drive and one slot: 34 cells. */
-static uint32_t room[34];
+/* A room of two servers, one drive and one slot: 42 cells. */
+static uint32_t room[42];
 
 static uint64_t step(uint32_t kind, uint8_t server, uint8_t other, uint32_t number)
 {
     uint8_t record[REGISTER_LONGEST_RECORD];
     uint64_t used = register_write((uint8_t)kind, server, 0, 0, other, number, record, sizeof record);
     CHECK(REGISTER_WORD(used) == REGISTER_DONE);
-    return register_step(room, 34, record, REGISTER_NUMBER(used));
+    return register_step(room, 42, record, REGISTER_NUMBER(used));
 }
 
 static void done(uint32_t kind, uint8_t server, uint8_t other, uint32_t number)
@@ -94,7 +94,7 @@ static void done(uint32_t kind, uint8_t server, uint8_t other, uint32_t number)
 /* The step is refused with this number, and every cell stays. */
 static void refused(uint32_t refusal, uint32_t kind, uint8_t server, uint8_t other, uint32_t number)
 {
-    uint32_t before[34];
+    uint32_t before[42];
     memcpy(before, room, sizeof room);
     uint64_t answer = step(kind, server, other, number);
     CHECK(REGISTER_WORD(answer) == REGISTER_REFUSED && REGISTER_NUMBER(answer) == refusal);
@@ -103,7 +103,7 @@ static void refused(uint32_t refusal, uint32_t kind, uint8_t server, uint8_t oth
 
 static void steps(void)
 {
-    CHECK(register_open(room, 34, 2, 1, 1) == 0);
+    CHECK(open_usual(room, 42, 2, 1, 1) == 0);
     refused(REGISTER_E_BEYOND, REGISTER_OFFER, 2, 0, constants[0]);
     refused(REGISTER_E_NOT_A_COMMAND, REGISTER_OFFER, 0, 0, REGISTER_ENTER(63, 61));
     refused(REGISTER_E_NOT_ITS_BALLOT, REGISTER_REJOIN, 0, 0, 2);
@@ -134,20 +134,20 @@ static void steps(void)
     CHECK(room[at + REGISTER_BLOCK_MBAL] == 1000000 && room[at + REGISTER_BLOCK_INP] == 0);
 }
 
-/* A step of the one server of a shelf of two drives: 23 cells. */
+/* A step of the one server of a shelf of two drives: 31 cells. */
 static uint64_t on_shelf(uint32_t *shelf, uint32_t kind, uint8_t drive, uint32_t number)
 {
     uint8_t record[REGISTER_LONGEST_RECORD];
     uint64_t used = register_write((uint8_t)kind, 0, 0, drive, 0, number, record, sizeof record);
-    return register_step(shelf, 23, record, REGISTER_NUMBER(used));
+    return register_step(shelf, 31, record, REGISTER_NUMBER(used));
 }
 
 /* Of two drives, drive 0 alone is enough for Rejoin and Finish, and drive 1 alone is not. */
 static void two_drives(void)
 {
     const uint64_t refused_10 = refused_with(REGISTER_E_NO_MAJORITY);
-    uint32_t shelf[23];
-    CHECK(register_open(shelf, 23, 1, 2, 1) == 0);
+    uint32_t shelf[31];
+    CHECK(open_usual(shelf, 31, 1, 2, 1) == 0);
     CHECK(on_shelf(shelf, REGISTER_OFFER, 0, constants[0]) == 0);
     CHECK(on_shelf(shelf, REGISTER_RECALL, 1, 0) == 0);
     CHECK(on_shelf(shelf, REGISTER_REJOIN, 0, 1) == refused_10);
@@ -168,42 +168,42 @@ static void two_drives(void)
 /* Rows and lengths that are wrong. */
 static void rows(void)
 {
-    uint32_t row[35], before[35], out[65], old[65];
+    uint32_t row[43], before[43], out[65], old[65];
     memset(row, 7, sizeof row);
     memcpy(before, row, sizeof row);
-    CHECK(register_open(row, 34, 0, 1, 1) == REGISTER_E_SIZES && register_open(row, 34, 2, 8, 1) == REGISTER_E_SIZES);
-    CHECK(register_open(row, 35, 2, 1, 1) == REGISTER_E_LENGTH && register_open(row, 0, 2, 1, 1) == REGISTER_E_LENGTH);
+    CHECK(open_usual(row, 42, 0, 1, 1) == REGISTER_E_SIZES && open_usual(row, 42, 2, 8, 1) == REGISTER_E_SIZES);
+    CHECK(open_usual(row, 43, 2, 1, 1) == REGISTER_E_LENGTH && open_usual(row, 0, 2, 1, 1) == REGISTER_E_LENGTH);
     static const uint8_t fail[] = {0x00, 0x08};
-    for (size_t cells = 0; cells <= 35; cells++) {
+    for (size_t cells = 0; cells <= 43; cells++) {
         uint64_t answer = register_step(row, cells, fail, sizeof fail);
         CHECK(REGISTER_WORD(answer) == REGISTER_REFUSED && REGISTER_NUMBER(answer) == REGISTER_E_CELLS);
     }
     CHECK(memcmp(before, row, sizeof row) == 0);
     memset(out, 9, sizeof out);
     memcpy(old, out, sizeof out);
-    CHECK(REGISTER_NUMBER(register_catalogue(room, 34, 0, out, 65)) == REGISTER_E_LENGTH);
-    CHECK(REGISTER_NUMBER(register_catalogue(row, 34, 0, out, 64)) == REGISTER_E_CELLS);
-    CHECK(REGISTER_NUMBER(register_catalogue(room, 34, 2, out, 64)) == REGISTER_E_BEYOND);
+    CHECK(REGISTER_NUMBER(register_catalogue(room, 42, 0, out, 65)) == REGISTER_E_LENGTH);
+    CHECK(REGISTER_NUMBER(register_catalogue(row, 42, 0, out, 64)) == REGISTER_E_CELLS);
+    CHECK(REGISTER_NUMBER(register_catalogue(room, 42, 2, out, 64)) == REGISTER_E_BEYOND);
     CHECK(memcmp(out, old, sizeof out) == 0);
-    CHECK(register_catalogue(room, 34, 0, out, REGISTER_PIECES) == 0 && out[0] == 0 && out[64] == old[64]);
+    CHECK(register_catalogue(room, 42, 0, out, REGISTER_PIECES) == 0 && out[0] == 0 && out[64] == old[64]);
 }
 
 /* A strike; then an enter, a move and a strike of the same number. */
 static void struck(void)
 {
-    uint32_t row[79], out[REGISTER_PIECES];
+    uint32_t row[87], out[REGISTER_PIECES];
     for (uint32_t cell = 0; cell <= 512; cell++)
         CHECK(REGISTER_ENTERED(cell) == (cell >= 1 && cell <= 255));
     CHECK(REGISTER_STRUCK == 256 && !REGISTER_ENTERED(UINT32_MAX) && !REGISTER_ENTERED(-1));
-    CHECK(register_open(row, 79, 1, 1, 5) == 0);
-    settle(row, 79, 0, REGISTER_ENTER(5, 9));
-    CHECK(register_catalogue(row, 79, 0, out, REGISTER_PIECES) == 1 * 256 && out[5] == 9);
-    settle(row, 79, 1, REGISTER_STRIKE(5));
-    CHECK(register_catalogue(row, 79, 0, out, REGISTER_PIECES) == 2 * 256 && out[5] == REGISTER_STRUCK);
-    settle(row, 79, 2, REGISTER_ENTER(5, 9));
-    settle(row, 79, 3, REGISTER_MOVE(5, 12));
-    settle(row, 79, 4, REGISTER_STRIKE(5));
-    CHECK(register_catalogue(row, 79, 0, out, REGISTER_PIECES) == 5 * 256 + 3);
+    CHECK(open_usual(row, 87, 1, 1, 5) == 0);
+    settle(row, 87, 0, REGISTER_ENTER(5, 9));
+    CHECK(register_catalogue(row, 87, 0, out, REGISTER_PIECES) == 1 * 256 && out[5] == 9);
+    settle(row, 87, 1, REGISTER_STRIKE(5));
+    CHECK(register_catalogue(row, 87, 0, out, REGISTER_PIECES) == 2 * 256 && out[5] == REGISTER_STRUCK);
+    settle(row, 87, 2, REGISTER_ENTER(5, 9));
+    settle(row, 87, 3, REGISTER_MOVE(5, 12));
+    settle(row, 87, 4, REGISTER_STRIKE(5));
+    CHECK(register_catalogue(row, 87, 0, out, REGISTER_PIECES) == 5 * 256 + 3);
     for (uint32_t piece = 0; piece < REGISTER_PIECES; piece++)
         CHECK(out[piece] == (piece == 5 ? REGISTER_STRUCK : 0));
 }

@@ -27,6 +27,14 @@ static const uint32_t beyond[] = {5, 8, 17, 255, 256, 65536, UINT32_C(1) << 31, 
 /* Macros that make commands serve as constants too. */
 static const uint32_t constants[] = {REGISTER_ENTER(5, 9), REGISTER_MOVE(63, 60), REGISTER_STRIKE(7)};
 
+/* The usual limits, and a row opened with these: 0, or the refusal. */
+static const uint32_t usual[REGISTER_CABINETS] = REGISTER_USUAL_LIMITS;
+
+static inline uint32_t open_usual(uint32_t *row, size_t cells, uint32_t servers, uint32_t drives, uint32_t slots)
+{
+    return register_open(row, cells, servers, drives, slots, usual, REGISTER_CABINETS);
+}
+
 /* Prints how many checks failed. The status of the program: 1 where one did. */
 static inline int failed(void)
 {

@@ -2,15 +2,15 @@
  * from docs/SPEC.md. */
 #include "test.h"
 
-/* A room of two servers, one drive and one slot: 34 cells. */
-static uint32_t room[34];
+/* A room of two servers, one drive and one slot: 42 cells. */
+static uint32_t room[42];
 
 static uint64_t step(uint32_t kind, uint8_t server, uint32_t number)
 {
     uint8_t record[REGISTER_LONGEST_RECORD];
     uint8_t other = server == 0 ? 1 : 0;
     uint64_t used = register_write((uint8_t)kind, server, 0, 0, other, number, record, sizeof record);
-    return register_step(room, 34, record, REGISTER_NUMBER(used));
+    return register_step(room, 42, record, REGISTER_NUMBER(used));
 }
 
 static void done(uint32_t kind, uint8_t server, uint32_t number)
@@ -27,7 +27,7 @@ static void commits(uint32_t kind, uint8_t server)
 /* The step is refused with this number, and every cell stays. */
 static void refused(uint32_t refusal, uint32_t kind, uint8_t server, uint32_t number)
 {
-    uint32_t before[34];
+    uint32_t before[42];
     memcpy(before, room, sizeof room);
     CHECK(step(kind, server, number) == refused_with(refusal));
     CHECK(memcmp(before, room, sizeof room) == 0);
@@ -48,7 +48,7 @@ static uint32_t block_cell(uint32_t server, uint32_t cell)
 static void shows(uint32_t server, uint32_t taken)
 {
     uint32_t out[REGISTER_PIECES];
-    CHECK(register_catalogue(room, 34, server, out, REGISTER_PIECES) == taken * 256);
+    CHECK(register_catalogue(room, 42, server, out, REGISTER_PIECES) == taken * 256);
     CHECK(out[5] == (taken == 1 ? 9 : 0));
 }
 
@@ -63,7 +63,7 @@ static void begin(uint8_t server, uint32_t ballot)
 /* Server 0 settles the coin with ballot 3. */
 static void settled(void)
 {
-    CHECK(register_open(room, 34, 2, 1, 1) == 0);
+    CHECK(open_usual(room, 42, 2, 1, 1) == 0);
     done(REGISTER_OFFER, 0, constants[0]);
     begin(0, 3);
     done(REGISTER_READ, 0, 0);
@@ -114,7 +114,7 @@ static void failure(void)
 /* Done is looked at before the ballots; a cell that is no command is out of range. */
 static void cells(void)
 {
-    CHECK(register_open(room, 34, 2, 1, 1) == 0);
+    CHECK(open_usual(room, 42, 2, 1, 1) == 0);
     begin(0, 3);
     uint32_t block = register_block_at(2, 1, 1, 1, 0, 0);
     room[block + REGISTER_BLOCK_MBAL] = 1000000;

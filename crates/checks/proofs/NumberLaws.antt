@@ -6,7 +6,7 @@ use native.Mathlib.Omega.{arith}
 use lib.ListN.{get_or}
 use Rattle.std.specs.Prelude.{Result, Ok, Err}
 use Rattle.checks.specs.declared.Refusal.{Refusal}
-use Rattle.checks.specs.declared.Refusal.TheVariants.{SizesUnfit, WrongLength, OutOfRange, BeyondRoom, NoCommand, NotOwnBallot, WrongPhase, DriveIsOff, NotWritten, NoMajority, BallotTooLow, NothingToTry, BallotsSpent, CutShort, Malformed, SlotNotFree, NoSlotFree}
+use Rattle.checks.specs.declared.Refusal.TheVariants.{SizesUnfit, WrongLength, OutOfRange, BeyondRoom, NoCommand, NotOwnBallot, WrongPhase, DriveIsOff, NotWritten, NoMajority, BallotTooLow, NothingToTry, BallotsSpent, CutShort, Malformed, SlotNotFree, NoSlotFree, LimitsUnfit}
 use Rattle.checks.specs.Refusals.{refusal_number, refusal_in}
 
 -- the refusal with this number; for a number that none has, the first
@@ -31,6 +31,7 @@ refusal_at n =
     ∷ Malformed
     ∷ SlotNotFree
     ∷ NoSlotFree
+    ∷ LimitsUnfit
     ∷ [])
     n SizesUnfit
 
@@ -52,6 +53,7 @@ at_number CutShort = refl
 at_number Malformed = refl
 at_number SlotNotFree = refl
 at_number NoSlotFree = refl
+at_number LimitsUnfit = refl
 
 pub one_number : (r s : Refusal) → refusal_number r ≡ refusal_number s → r ≡ s
 one_number r s e = sym (at_number r) ∙ ap refusal_at e ∙ at_number s
@@ -74,6 +76,7 @@ number_positive CutShort = omega arith
 number_positive Malformed = omega arith
 number_positive SlotNotFree = omega arith
 number_positive NoSlotFree = omega arith
+number_positive LimitsUnfit = omega arith
 
 -- the number tells the refusal
 pub refused_is : {A : Type 0} (x : Result A Refusal) (r : Refusal) → refusal_in x ≡ refusal_number r → x ≡ Err r

@@ -41,6 +41,8 @@ pub enum Refusal {
     SlotNotFree = 16,
     // No slot is free for the server.
     NoSlotFree = 17,
+    // A limit of a cabinet outside 1 to 255.
+    LimitsUnfit = 18,
 }
 
 impl Refusal {

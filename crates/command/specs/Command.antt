@@ -1,5 +1,6 @@
 -- Commands (SPEC, "The commands").
 use Rattle.std.specs.Prelude.{ℕ, ◌/◌, ◌%◌, Bool, ◌&&◌, ◌||◌, List, [], ◌∷◌, get_or, eqb, leb}
+use Rattle.std.specs.List.{list_all}
 
 abbrev pub kind_of : ℕ → ℕ
 kind_of v = v / 65536
@@ -19,7 +20,15 @@ move = 2
 abbrev pub strike : ℕ
 strike = 3
 
--- the limits of cabinets 0 to 7
+-- there are eight cabinets, each with the largest hoard of its pieces as its limit
+abbrev pub cabinets : ℕ
+cabinets = 8
+
+-- limits that a room may have: each is a hoard, 1 to 255
+unfoldable pub limits_fit : List ℕ → Bool
+limits_fit limits = list_all (λ limit. leb 1 limit && leb limit 255) limits
+
+-- 01's limits of cabinets 0 to 7
 abbrev pub cabinet_limits : List ℕ
 cabinet_limits = 255 ∷ 255 ∷ 200 ∷ 200 ∷ 120 ∷ 120 ∷ 60 ∷ 60 ∷ []
 

@@ -2,7 +2,7 @@
 #![tactic(auto)]
 
 ghost use Rattle.std.specs.Prelude.{◌≡◌};
-ghost use Rattle.command.specs.Command.{kind_of, piece_of, hoard_of, is_command, cabinet_limits};
+ghost use Rattle.command.specs.Command.{kind_of, piece_of, hoard_of, is_command, limits_fit, cabinet_limits};
 ghost use Rattle.command.specs.Tops.{byte_of, tops_of, value_by};
 
 use kinds::Kind;
@@ -36,16 +36,27 @@ pub fn hoard(v: u32) -> u32
     v % 256
 }
 
-// The largest hoard of each cabinet.
+// There are eight cabinets.
+pub const CABINETS: usize = 8;
+
+// The largest hoard of each cabinet. Any numbers, since they come from a caller or from cells: `fit` judges them.
 #[derive(Clone, Copy)]
-pub struct Limits(pub [u32; 8]);
+pub struct Limits(pub [u32; CABINETS]);
 
 impl Limits {
-    // The limits of cabinets 0 to 7.
+    // 01's limits of cabinets 0 to 7.
     pub fn of_cabinets() -> Limits
         ensures { result.0 ≡ cabinet_limits }
     {
         Limits([255, 255, 200, 200, 120, 120, 60, 60])
+    }
+
+    // Whether a room may have them: each is a hoard, 1 to 255.
+    #[tactic(auto, unfolding(crate::specs::Command::limits_fit))]
+    pub fn fit(&self) -> bool
+        ensures { result ≡ limits_fit self.now.0 }
+    {
+        self.0.iter().all(|limit| (1..=255).contains(limit))
     }
 
     // Whether v is a command where each cabinet has its limit.

@@ -1,4 +1,4 @@
--- Why the room follows the one-value machine: one slot, one step, the whole list.
+-- Why the room follows the one-value machine: one slot, one step, the whole list; and that no call alters a limit.
 pub mod Always
 pub mod Firsts
 pub mod SlotMoves
@@ -9,3 +9,4 @@ pub mod Chooses
 pub mod Moments
 pub mod Opened
 pub mod Runs
+pub mod KeptLimits

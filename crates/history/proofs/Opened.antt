@@ -1,11 +1,13 @@
 -- A room just opened is a moment: every record is that of a failed server, every block is blank, and nothing has happened.
 use Prim.Native.Nat.{ℕ, suc, ◌+◌, ◌-◌, ◌*◌, ◌<◌, ◌≤◌}
 use mathlib.Core.Path.{◌≡◌, refl, ◌∙◌, sym, ap}
-use mathlib.Core.List.{List}
+use mathlib.Core.Bool.{true}
+use mathlib.Core.List.{List, ◌++◌}
 use native.Mathlib.Omega.{arith}
 use native.Mathlib.Decide.{dec_lt}
-use lib.ListN.{length, get_or, replicate, length-replicate, get_or-replicate, get_or-eq_default}
-use Rattle.quorum.specs.Sets.{within}
+use lib.ListN.{length, get_or, replicate, length-replicate, length-append, get_or-replicate, get_or-eq_default}
+use lib.Seq.{get_or-append-add, take_all, take-append-le}
+use Rattle.command.specs.Command.{cabinets, limits_fit}
 use Rattle.quorum.proofs.MaskLaws.{within-zero}
 use Rattle.state.specs.declared.Server.{Server}
 use Rattle.state.specs.declared.Sizes.{Sizes}
@@ -32,61 +34,73 @@ zeros_at n i = go (dec_lt i n)
     go (yes h) = get_or-replicate n i 0 0 h
     go (no h) = get_or-eq_default {A = ℕ} (replicate n 0) 0 (let e = length-replicate {A = ℕ} n 0 in omega arith)
 
--- every cell from the off marks on is 0
-opened-zero : (z : Sizes) (i : ℕ) → get_or (opened_cells z) (suc (suc (suc i))) 0 ≡ 0
-unfolding opened_cells
-opened-zero z i = zeros_at (room_length z - 3) i
+module _ (z : Sizes) (limits : List ℕ) (eight : length limits ≡ cabinets) where
+  -- every cell behind the limits is 0
+  opened_from : (i : ℕ) → base ≤ i → get_or (opened_cells z limits) i 0 ≡ 0
+  unfolding opened_cells
+  opened_from i h =
+      let zeros : List ℕ = replicate (room_length z - base) 0 in
+      let front : i ≡ suc (suc (suc (suc (i - 4)))) = omega arith in
+      let behind : i - 4 ≡ length limits + (i - base) = omega arith in
+      ap (λ (j : ℕ). get_or (opened_cells z limits) j 0) front
+      ∙ ap (λ (j : ℕ). get_or (limits ++ zeros) j 0) behind
+      ∙ get_or-append-add limits zeros (i - base) 0
+      ∙ zeros_at (room_length z - base) (i - base)
 
-opened_from : (z : Sizes) (i : ℕ) → 3 ≤ i → get_or (opened_cells z) i 0 ≡ 0
-opened_from z i h =
-    let e : i ≡ suc (suc (suc (i - 3))) = omega arith in
-    ap (λ (j : ℕ). get_or (opened_cells z) j 0) e ∙ opened-zero z (i - 3)
+  opened_server : (at : ℕ) → base ≤ at → server_in (opened_cells z limits) at ≡ failed
+  opened_server at h =
+      server_read (opened_cells z limits) at failed (λ i l. opened_from (at + i) (omega arith) ∙ sym (zeros_at server_length i))
 
-opened_server : (z : Sizes) (at : ℕ) → base ≤ at → server_in (opened_cells z) at ≡ failed
-opened_server z at h =
-    server_read (opened_cells z) at failed (λ i l. opened_from z (at + i) (omega arith) ∙ sym (zeros_at server_length i))
+  opened_block : (at : ℕ) → base ≤ at → block_in (opened_cells z limits) at ≡ blank
+  opened_block at h =
+      Block-read (opened_cells z limits) at blank (λ i l. opened_from (at + i) (omega arith) ∙ sym (zeros_at block_length i))
 
-opened_block : (z : Sizes) (at : ℕ) → base ≤ at → block_in (opened_cells z) at ≡ blank
-opened_block z at h =
-    Block-read (opened_cells z) at blank (λ i l. opened_from z (at + i) (omega arith) ∙ sym (zeros_at block_length i))
+  opened_limits : limits_of (opened_cells z limits) ≡ limits
+  unfolding opened_cells
+  opened_limits =
+      take-append-le cabinets limits (replicate (room_length z - base) 0) (omega (arith, eight))
+      ∙ take_all cabinets limits (omega (arith, eight))
 
-opened-length : (z : Sizes) → Fit z → length (opened_cells z) ≡ room_length z
-unfolding opened_cells
-opened-length z f =
-    let e = length-replicate {A = ℕ} (room_length z - 3) 0 in
-    omega (arith, base_room z f)
+  opened-length : Fit z → length (opened_cells z limits) ≡ room_length z
+  unfolding opened_cells
+  opened-length f =
+      let zeros : List ℕ = replicate (room_length z - base) 0 in
+      let e = length-replicate {A = ℕ} (room_length z - base) 0 in
+      omega (arith, base_room z f, length-append limits zeros)
 
 blank_in : (limits : List ℕ) → BlockIn limits blank
 blank_in limits = record { mbal = omega arith; bal = omega arith; inp = zero_fits limits; done = zero_fits limits }
 
-pub opens : (z : Sizes) → Fit z → Moment (limits_of (opened_cells z)) z (opened_cells z) (λ t. no_ghost) (λ t. blank_slot)
+pub opens
+    : (z : Sizes) (limits : List ℕ) → Fit z → length limits ≡ cabinets → limits_fit limits ≡ true
+    → Moment limits z (opened_cells z limits) (λ t. no_ghost) (λ t. blank_slot)
 unfolding server_of block_of block_at
-opens z f =
-    let limits = limits_of (opened_cells z) in
+opens z limits f eight hoards =
     record {
       whole =
           record {
             range =
                 record {
-                  row = record { fit = f; exact = opened-length z f };
-                  off = ap (λ (m : ℕ). within m (legal_drives z)) (opened_from z 3 (omega arith)) ∙ within-zero (legal_drives z);
+                  row = record { fit = f; exact = opened-length z limits eight f };
+                  hoards = hoards;
+                  off = unfold opened_cells in within-zero (legal_drives z);
                   servers =
                       λ s p h l.
-                      ap (λ (v : Server). server_fits (value_fits limits) (masks_of z) v) (opened_server z (server_at z s p) (base_server z f s p))
+                      ap (λ (v : Server). server_fits (value_fits limits) (masks_of z) v) (opened_server z limits eight (server_at z s p) (base_server z f s p))
                       ∙ says_server limits (masks_of z) failed (failed_in limits z);
                   nths =
                       λ s k h l.
-                      ap (block_fits (value_fits limits)) (opened_block z (nth_block_at z s k) (base_nth z f s k))
+                      ap (block_fits (value_fits limits)) (opened_block z limits eight (nth_block_at z s k) (base_nth z f s k))
                       ∙ says_block limits blank (blank_in limits);
                 };
             sizes = unfold opened_cells in refl;
-            table = refl;
+            table = opened_limits z limits eight;
           };
       alike =
           λ t h p l.
           record {
-            own = sym (opened_server z (server_at z t p) (base_server z f t p));
-            disk = λ d k. sym (opened_block z (nth_block_at z t (d * z.servers + p)) (base_nth z f t (d * z.servers + p)));
+            own = sym (opened_server z limits eight (server_at z t p) (base_server z f t p));
+            disk = λ d k. sym (opened_block z limits eight (nth_block_at z t (d * z.servers + p)) (base_nth z f t (d * z.servers + p)));
           };
       holds = λ t h. begins (config_of z);
     }

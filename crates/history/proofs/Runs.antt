@@ -1,7 +1,7 @@
 -- A whole list of calls from a moment: one path of machine states for each slot, every command offered before it is
 -- output, and at every moment every output equal to the first one of the whole run.
 use Prim.Native.Nat.{ℕ, ◌<◌}
-use mathlib.Core.Path.{◌≡◌, refl, ◌∙◌, sym, ap, subst}
+use mathlib.Core.Path.{◌≡◌, ◌∙◌, sym, ap, subst}
 use mathlib.Core.Bool.{true}
 use mathlib.Core.List.{List, [], ◌∷◌}
 use Rattle.state.specs.declared.Sizes.{Sizes}

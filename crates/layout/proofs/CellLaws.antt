@@ -1,14 +1,14 @@
 -- What is read after cells are stored: at the place itself, and at any place apart from it.
-use Prim.Native.Nat.{ℕ, zero, suc, ◌+◌, ◌<◌, ◌≤◌}
+use Prim.Native.Nat.{ℕ, zero, suc, ◌+◌, ◌-◌, ◌<◌, ◌≤◌, min}
 use mathlib.Core.Path.{◌≡◌, refl, ◌∙◌, sym, ap}
 use mathlib.Core.List.{List, [], ◌∷◌, ◌++◌}
 use mathlib.Core.Logic.{◌⊎◌, ⊎_elim}
 use native.Mathlib.Omega.{arith}
 use native.Mathlib.Nat.{add-zero}
-use lib.ListN.{length, get_or, set, take, drop, length-set}
+use lib.ListN.{length, get_or, set, take, drop, length-set, length-take}
 use Rattle.std.proofs.lemmas.List.{get_or-take, get_or-drop, append_assoc, length-drop}
 use borrow.Rule.Slice.PartMut.{put_mid}
-use lib.Seq.{sets, sets-eq, length-sets, drop-drop, length-take-le, get_or-set_same, get_or-set_other}
+use lib.Seq.{sets, sets-eq, ext_get_or, length-sets, drop-drop, length-take-le, get_or-set_same, get_or-set_other}
 use Rattle.state.specs.declared.Block.{Block}
 use Rattle.state.specs.declared.Server.{Server}
 use Rattle.layout.specs.Places.{server_length, block_length}
@@ -167,6 +167,18 @@ apart_same r at xs b n h i l =
 part_cell : (r : List ℕ) (at n i j : ℕ) → i < n → at + i ≡ j → get_or (take n (drop at r)) i 0 ≡ get_or r j 0
 part_cell r at n i j h e = get_or-take n (drop at r) i 0 h ∙ get_or-drop at r i 0 ∙ ap (λ (k : ℕ). get_or r k 0) e
 
+-- rows of one length that have the same n cells from a place on have them as the same part
+pub part_same : (r t : List ℕ) (at n : ℕ) → length r ≡ length t → Same r t at n → take n (drop at r) ≡ take n (drop at t)
+unfolding Same
+part_same r t at n e s =
+    let rest : length (drop at r) ≡ length (drop at t) =
+    length-drop at r ∙ ap (λ (m : ℕ). m - at) e ∙ sym (length-drop at t) in
+    ext_get_or 0 (take n (drop at r)) (take n (drop at t))
+    (length-take n (drop at r) ∙ ap (λ (m : ℕ). min n m) rest ∙ sym (length-take n (drop at t)))
+    (λ i h.
+    let l : i < n = omega (arith, length-take n (drop at r)) in
+    part_cell r at n i (at + i) l refl ∙ s i l ∙ sym (part_cell t at n i (at + i) l refl))
+
 pub server_moved : (r : List ℕ) (at : ℕ) → server_in (take server_length (drop at r)) 0 ≡ server_in r at
 server_moved r at =
     let cell : (i j : ℕ) → i < server_length → at + i ≡ j → get_or (take server_length (drop at r)) i 0 ≡ get_or r j 0 = part_cell r at server_length in
@@ -192,6 +204,12 @@ block_moved r at =
     let c3 = cell 3 (at + 3) (omega arith) (omega arith) in
     λ i. record { mbal = c0 i; bal = c1 i; inp = c2 i; done = c3 i }
 
+-- a row in which some cells are stored is what stood before them, they, and what stood behind
+pub put_parts
+    : (r : List ℕ) (at : ℕ) (xs : List ℕ) → at + length xs ≤ length r
+    → put r at xs ≡ take at r ++ (xs ++ drop (at + length xs) r)
+put_parts r at xs h = put_sets r at xs ∙ sets-eq xs r at h ∙ append_assoc (take at r) xs (drop (at + length xs) r)
+
 -- the cells that are copied into their part of a row at once are stored one by one
 pub put_at_once
     : (r : List ℕ) (at k : ℕ) (ys xs : List ℕ) → ys ≡ xs → length ys ≡ length (take k (drop at r)) → at + k ≤ length r
@@ -202,6 +220,4 @@ put_at_once r at k ys xs e n h =
     let after : at + k ≡ at + length xs = omega arith in
     ap (λ (zs : List ℕ). take at r ++ (zs ++ drop k (drop at r))) e
     ∙ ap (λ (zs : List ℕ). take at r ++ (xs ++ zs)) (drop-drop k at r ∙ ap (λ (j : ℕ). drop j r) after)
-    ∙ sym (append_assoc (take at r) xs (drop (at + length xs) r))
-    ∙ sym (sets-eq xs r at (omega arith))
-    ∙ sym (put_sets r at xs)
+    ∙ sym (put_parts r at xs (omega arith))

@@ -1,7 +1,7 @@
 -- What is read of a room after a record, a block or the off marks are stored: at the same place, and at any other slot,
 -- server and drive.
 use Prim.Native.Nat.{ℕ, ◌+◌, ◌*◌, ◌<◌, ◌≤◌, ◌/◌, ◌%◌}
-use mathlib.Core.Path.{◌≡◌, refl, ◌∙◌, sym, ap}
+use mathlib.Core.Path.{◌≡◌, ◌∙◌, sym, ap}
 use mathlib.Core.Bool.{true, ◌&&◌}
 use mathlib.Core.List.{List}
 use mathlib.Core.Logic.{inl, inr}
@@ -12,13 +12,14 @@ use lib.ListN.{length, get_or, set, length-set}
 use lib.Seq.{get_or-set_other}
 use borrow.Author.Tests.{le-leb, eqb-true, eq-eqb}
 use Rattle.lemmas.proofs.Tests.{and_left, and_right}
+use Rattle.command.specs.Command.{cabinets}
 use Rattle.state.specs.declared.Block.{Block}
 use Rattle.state.specs.declared.Server.{Server}
 use Rattle.state.specs.declared.Sizes.{Sizes}
 use Rattle.layout.specs.Places.{base, server_length, block_length, room_length, server_at, nth_block_at, block_at, sizes_fit, Row}
-use Rattle.layout.specs.Cells.{put, sizes_of, limits_of, is_row, off_of, off_at, server_cells, block_in, block_cells, server_of, put_server, block_of, put_block}
+use Rattle.layout.specs.Cells.{put, sizes_of, limits_at, limits_of, is_row, off_of, off_at, server_cells, block_in, block_cells, server_of, put_server, block_of, put_block}
 use Rattle.layout.proofs.PlaceLaws.{Apart, fit_of, of_fit, row_head, server_within, block_within, nth_of, servers_apart, nths_apart, server_nth_apart, base_server, base_nth}
-use Rattle.layout.proofs.CellLaws.{Same, put-length, put_outside, server_same, block_same, apart_same, put_server_lem, put_block_lem}
+use Rattle.layout.proofs.CellLaws.{Same, part_same, put-length, put_outside, server_same, block_same, apart_same, put_server_lem, put_block_lem}
 
 -- what is apart one way is apart the other way
 pub turned : (a n b m : ℕ) → Apart a n b m → Apart b m a n
@@ -47,7 +48,7 @@ says_row r row =
       eq-eqb (length r) (room_length (sizes_of r)) row.exact,
     )
 
--- sizes and off marks of a row are in its first four cells
+-- the sizes of a row are in the cells before its first slot
 pub head_same : (r t : List ℕ) → ((i : ℕ) → i < base → get_or r i 0 ≡ get_or t i 0) → sizes_of r ≡ sizes_of t
 head_same r t h =
     let a = h 0 (omega arith) in
@@ -75,7 +76,8 @@ module _ (z : Sizes) (r : List ℕ) (row : Row z r) where
     server_sizes = head_same (put_server z r s p v) r server_head
 
     pub server_limits : limits_of (put_server z r s p v) ≡ limits_of r
-    server_limits = refl
+    server_limits =
+        part_same (put_server z r s p v) r limits_at cabinets server_length_lem (unfold Same in λ i l. server_head (limits_at + i) (omega arith))
 
     pub server_off : off_of (put_server z r s p v) ≡ off_of r
     server_off = server_head off_at (omega arith)
@@ -126,7 +128,8 @@ module _ (z : Sizes) (r : List ℕ) (row : Row z r) where
     block_sizes = head_same (put_block z r s d p b) r block_head
 
     pub block_limits : limits_of (put_block z r s d p b) ≡ limits_of r
-    block_limits = refl
+    block_limits =
+        part_same (put_block z r s d p b) r limits_at cabinets block_length_lem (unfold Same in λ i l. block_head (limits_at + i) (omega arith))
 
     pub block_off : off_of (put_block z r s d p b) ≡ off_of r
     block_off = block_head off_at (omega arith)
@@ -179,7 +182,9 @@ module _ (z : Sizes) (r : List ℕ) (row : Row z r) where
         λ i. record { servers = a i; drives = b i; slots = c i }
 
     pub off_limits : limits_of (set r off_at m) ≡ limits_of r
-    off_limits = refl
+    off_limits =
+        part_same (set r off_at m) r limits_at cabinets (length-set r off_at m)
+        (unfold Same in λ i l. get_or-set_other r off_at (limits_at + i) m 0 (omega arith))
 
     -- the off marks are before every slot
     off_same : (at n : ℕ) → base ≤ at → Same (set r off_at m) r at n

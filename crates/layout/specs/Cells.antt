@@ -1,6 +1,7 @@
 -- A record and a block as cells, read from a row and stored in it (SPEC, "The room in memory").
-use Rattle.std.specs.Prelude.{ℕ, ◌+◌, Bool, ◌&&◌, List, [], ◌∷◌, length, get_or, set, eqb, leb}
-use Rattle.command.specs.Command.{cabinet_limits}
+use Rattle.std.specs.Prelude.{ℕ, ◌+◌, Bool, ◌&&◌, List, [], ◌∷◌, length, get_or, set, take, drop, eqb, leb}
+use Rattle.command.specs.Command.{cabinets}
+use Rattle.command.specs.declared.Limits.{Limits}
 use Rattle.state.specs.declared.Block.{Block}
 use Rattle.state.specs.declared.Server.{Server}
 use Rattle.state.specs.declared.Sizes.{Sizes}
@@ -35,9 +36,17 @@ off_at = 3
 abbrev pub off_of : List ℕ → ℕ
 off_of cells = get_or cells off_at 0
 
--- the limits by which a room's commands are judged
+-- the limits that eight cells say
+abbrev pub limits_by : List ℕ → Limits
+limits_by cells = record { 0 = cells }
+
+-- the first cell of the limits
+abbrev pub limits_at : ℕ
+limits_at = 4
+
+-- the limits by which a room's commands are judged: cells 4 to 11
 abbrev pub limits_of : List ℕ → List ℕ
-limits_of cells = cabinet_limits
+limits_of cells = take cabinets (drop limits_at cells)
 
 -- the eleven cells of a server record
 abbrev pub server_cells : Server → List ℕ

@@ -3,9 +3,9 @@ use Rattle.std.specs.Prelude.{ℕ, ◌+◌, ◌*◌, ◌≤◌, Bool, ◌&&◌, 
 use Rattle.state.specs.declared.Sizes.{Sizes}
 use Rattle.state.specs.Sizes.{in_room, drive_fits}
 
--- cells 0 to 3 are N, D, S and the off marks
+-- cells 0 to 3 are N, D, S and the off marks, 4 to 11 the limits of the cabinets
 abbrev pub base : ℕ
-base = 4
+base = 12
 
 -- cells of a server record
 abbrev pub server_length : ℕ

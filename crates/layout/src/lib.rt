@@ -3,9 +3,9 @@
 
 ghost use Rattle.std.specs.Prelude.{◌≡◌, ◌≤◌, length};
 ghost use Rattle.layout.specs.Places.{base, longest_room, sizes_fit, length_of, server_place, block_place};
-ghost use Rattle.layout.specs.Cells.{sizes_of, limits_of};
+ghost use Rattle.layout.specs.Cells.{sizes_of};
 
-use command::Limits;
+use command::CABINETS;
 use plan::Plan;
 use state::Sizes;
 use stored::stored_at;
@@ -19,10 +19,12 @@ pub mod plan;
 // A room as a type.
 pub mod rooms;
 
-// The cell of the off marks, and the first cell of slot 0.
+// The cell of the off marks, the first cell of the limits, and that of slot 0.
 pub const OFF: usize = 3;
 
-pub const BASE: usize = 4;
+pub const LIMITS: usize = 4;
+
+pub const BASE: usize = LIMITS + CABINETS;
 
 // The cells of the sizes, of a server record and of a block.
 pub const SIZES_CELLS: usize = 3;
@@ -53,13 +55,6 @@ pub fn sizes(room: &[u32]) -> Sizes
     ensures { result ≡ sizes_of room.now }
 {
     stored_at(room, 0)
-}
-
-// The limits by which a row's commands are judged.
-pub fn limits(row: &[u32]) -> Limits
-    ensures { result.0 ≡ limits_of row.now }
-{
-    Limits::of_cabinets()
 }
 
 // The cells of a room of these sizes, and 0 where they do not fit.

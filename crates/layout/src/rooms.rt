@@ -4,7 +4,7 @@ ghost use Rattle.layout.specs.Cells.{sizes_of};
 
 use crate::plan::Plan;
 use crate::stored::{store_at, stored_at};
-use crate::{BASE, OFF, limits, sizes};
+use crate::{BASE, LIMITS, OFF, sizes};
 use command::Limits;
 use state::{Block, Server, Sizes};
 
@@ -47,10 +47,11 @@ impl<'a> Room<'a> {
     }
 
     // The limits by which its commands are judged.
+    #[tactic(auto, using(crate::proofs::PlaceLaws::row_head))]
     pub fn limits(&self) -> Limits
         ensures { result.0 ≡ limits_of self.now.cells.now }
     {
-        limits(self.cells)
+        stored_at(self.cells, LIMITS)
     }
 
     // The off marks.

@@ -1,7 +1,8 @@
 ghost use Rattle.std.specs.Prelude.{◌≡◌, ◌+◌, ◌≤◌, ℕ, List, length, take, drop, refl};
-ghost use Rattle.layout.specs.Cells.{put, sizes_of, sizes_cells, server_in, server_cells, block_in, block_cells};
+ghost use Rattle.layout.specs.Cells.{put, sizes_of, sizes_cells, limits_by, server_in, server_cells, block_in, block_cells};
 
 use crate::{BLOCK_CELLS, SERVER_CELLS, SIZES_CELLS};
+use command::{CABINETS, Limits};
 use state::{Block, Server, Sizes};
 
 // What stands in a row as N cells.
@@ -44,6 +45,27 @@ impl Stored<SIZES_CELLS> for Sizes {
         ensures { result ≡ sizes_cells self }
     {
         [self.servers, self.drives, self.slots]
+    }
+}
+
+// The limits, a cell for each cabinet.
+impl Stored<CABINETS> for Limits {
+    ghost of_cells = { limits_by };
+
+    ghost cells_of = { λ v. v.0 };
+
+    ghost same = { λ v. refl };
+
+    fn from_cells(cells: [u32; CABINETS]) -> Limits
+        ensures { result ≡ limits_by cells }
+    {
+        Limits(cells)
+    }
+
+    fn to_cells(self) -> [u32; CABINETS]
+        ensures { result ≡ self.0 }
+    {
+        self.0
     }
 }
 

@@ -1,9 +1,10 @@
 -- Laws of the range rule: the order of its tests, and what it says of each record and block.
 use Prim.Native.Nat.{ℕ, ◌+◌, ◌*◌, ◌<◌}
 use mathlib.Core.Path.{◌≡◌, ◌∙◌, sym, ap₂, subst, subst⁻¹}
-use mathlib.Core.Bool.{true, false}
+use mathlib.Core.Bool.{true, false, ◌&&◌}
 use mathlib.Core.List.{List}
-use Rattle.lemmas.proofs.Tests.{and_left, and_right, and_intro}
+use Rattle.lemmas.proofs.Tests.{and_left, and_right, and_intro, none_left, none_right}
+use Rattle.command.specs.Command.{limits_fit}
 use Rattle.quorum.specs.Sets.{all_below, within}
 use Rattle.quorum.proofs.AllBelow.{all_at, all_intro}
 use Rattle.state.specs.declared.Sizes.{Sizes}
@@ -22,9 +23,15 @@ pub row_in : (r : List ℕ) → is_row r ≡ true → in_range r ≡ room_fits (
 unfolding in_range
 row_in r e = simp e
 
+-- a row with a limit that is no hoard is not in range
+pub unfit_limits : (r : List ℕ) → limits_fit (limits_of r) ≡ false → in_range r ≡ false
+unfolding in_range room_fits
+unfit_limits r e = none_right (is_row r) _ (none_left (limits_fit (limits_of r)) _ e)
+
 -- a room in range, part by part
 pub record InRange (limits : List ℕ) (z : Sizes) (r : List ℕ) : Type 0 where
   pub row : Row z r
+  pub hoards : limits_fit limits ≡ true
   pub off : within (off_of r) (legal_drives z) ≡ true
   pub servers : (s p : ℕ) → s < z.slots → p < z.servers → server_fits (value_fits limits) (masks_of z) (server_of z r s p) ≡ true
   pub nths : (s k : ℕ) → s < z.slots → k < z.drives * z.servers → block_fits (value_fits limits) (block_in r (nth_block_at z s k)) ≡ true
@@ -38,12 +45,15 @@ block_fits_lem limits z r i s d p h l k = i.nths s (d * z.servers + p) h (nth_of
 pub cells_say : (limits : List ℕ) (z : Sizes) (r : List ℕ) → Row z r → room_fits limits z r ≡ true → InRange limits z r
 unfolding room_fits slot_fits servers_fit blocks_fit
 cells_say limits z r row e =
+    let hoards = limits_fit limits in
     let off = within (off_of r) (legal_drives z) in
     let slots = all_below z.slots (slot_fits (value_fits limits) z r) in
-    let slot = all_at z.slots (slot_fits (value_fits limits) z r) (and_right off slots e) in
+    let rest = and_right hoards (off && slots) e in
+    let slot = all_at z.slots (slot_fits (value_fits limits) z r) (and_right off slots rest) in
     record {
       row = row;
-      off = and_left off slots e;
+      hoards = and_left hoards (off && slots) e;
+      off = and_left off slots rest;
       servers =
           λ s p h l.
           all_at z.servers (λ q. server_fits (value_fits limits) (masks_of z) (server_of z r s q))
@@ -57,12 +67,15 @@ cells_say limits z r row e =
 pub say_cells : (limits : List ℕ) (z : Sizes) (r : List ℕ) → InRange limits z r → room_fits limits z r ≡ true
 unfolding room_fits slot_fits servers_fit blocks_fit
 say_cells limits z r i =
-    and_intro (within (off_of r) (legal_drives z)) (all_below z.slots (slot_fits (value_fits limits) z r)) i.off
+    let off = within (off_of r) (legal_drives z) in
+    let slots = all_below z.slots (slot_fits (value_fits limits) z r) in
+    and_intro (limits_fit limits) (off && slots) i.hoards
+    (and_intro off slots i.off
     (all_intro z.slots (slot_fits (value_fits limits) z r)
     (λ s h.
     and_intro (servers_fit (value_fits limits) z r s) (blocks_fit (value_fits limits) z r s)
     (all_intro z.servers (λ q. server_fits (value_fits limits) (masks_of z) (server_of z r s q)) (λ p l. i.servers s p h l))
-    (all_intro (z.drives * z.servers) (λ j. block_fits (value_fits limits) (block_in r (nth_block_at z s j))) (λ k l. i.nths s k h l))))
+    (all_intro (z.drives * z.servers) (λ j. block_fits (value_fits limits) (block_in r (nth_block_at z s j))) (λ k l. i.nths s k h l)))))
 
 pub range_says : (r : List ℕ) → in_range r ≡ true → InRange (limits_of r) (sizes_of r) r
 unfolding in_range

@@ -2,7 +2,7 @@
 use Rattle.std.specs.Prelude.{ℕ, ◌*◌, ◌/◌, ◌%◌, Bool, ◌&&◌, ◌||◌, List, length, take, drop, map, eqb, leb, ltb}
 use Rattle.std.specs.List.{list_all}
 use Rattle.std.specs.Simd.{first_chunks}
-use Rattle.command.specs.Command.{is_command}
+use Rattle.command.specs.Command.{limits_fit, is_command}
 use Rattle.quorum.specs.Sets.{all_below, gathered, within}
 use Rattle.state.specs.Block.{ballot_fits}
 use Rattle.state.specs.declared.Block.{Block}
@@ -85,9 +85,11 @@ blocks_fit value z cells s = all_below (z.drives * z.servers) (λ j. block_fits 
 unfoldable pub slot_fits : (ℕ → Bool) → Sizes → List ℕ → ℕ → Bool
 slot_fits value z cells s = servers_fit value z cells s && blocks_fit value z cells s
 
--- the off marks and the slots of a room of these sizes
+-- the limits, the off marks and the slots of a room of these sizes
 unfoldable pub room_fits : List ℕ → Sizes → List ℕ → Bool
-room_fits limits z cells = within (off_of cells) (legal_drives z) && all_below z.slots (slot_fits (value_fits limits) z cells)
+room_fits limits z cells =
+    limits_fit limits
+    && (within (off_of cells) (legal_drives z) && all_below z.slots (slot_fits (value_fits limits) z cells))
 
 -- a row that is a room with every cell in range
 unfoldable pub in_range : List ℕ → Bool

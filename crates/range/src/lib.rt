@@ -56,13 +56,17 @@ pub fn room_in<'a>(cells: &'a [u32]) -> Result<Room<'a>, Refusal>
     Ok(room)
 }
 
-// Whether the off marks and the slots of a room are in range.
+// Whether the limits, the off marks and the slots of a room are in range.
 fn room_fits(room: &Room) -> bool
     ensures { result ≡ room_fits (limits_of room.now.cells.now) room.now.sizes room.now.cells.now }
 {
+    let limits = room.limits();
+    if !limits.fit() {
+        return false;
+    }
     let plan = room.plan();
     let legal = Legal {
-        tops: room.limits().tops(),
+        tops: limits.tops(),
         marks: masks_of(plan),
         plan,
     };

@@ -42,11 +42,12 @@ stays z commands room other a b p q h l out lent exact whole less piece e =
 
 -- from a room just opened, for every list of calls
 pub never_again
-    : (z : Sizes) (row : List ℕ) → refusal_in (opening z row) ≡ 0 → (calls : List Call) → NeverAgain z (opened z row) calls
-never_again z row e calls =
-    let cells = opened z row in
+    : (z : Sizes) (limits row : List ℕ) → refusal_in (opening z limits row) ≡ 0 → (calls : List Call)
+    → NeverAgain z (opened z limits row) calls
+never_again z limits row e calls =
+    let cells = opened z limits row in
     let Show : List ℕ → Type 0 = AllShow z (commands_of z (history cells calls)) in
-    let shown = (one_history z row e calls).catalogues in
+    let shown = (one_history z limits row e calls).catalogues in
     always_map Show (λ room. Always (StaysStruck z room) cells calls)
     (λ room a. always_map Show (StaysStruck z room) (λ other. stays z _ room other a) cells calls shown)
     cells calls shown

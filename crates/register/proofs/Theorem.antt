@@ -1,9 +1,12 @@
--- Demand 3: from a room just opened, for all sizes that fit, every old content of the row and every list of calls.
+-- Demand 3: from a room just opened, for all sizes and limits that open accepts, every old content of the row and every list
+-- of calls.
 use Prim.Native.Nat.{ℕ, ◌<◌}
 use mathlib.Core.Path.{◌≡◌, refl, ◌∙◌, sym, ap, subst}
+use mathlib.Core.Bool.{true}
 use mathlib.Core.List.{List}
 use native.Mathlib.Omega.{arith}
 use lib.ListN.{length, take, length-take}
+use Rattle.command.specs.Command.{cabinets, limits_fit}
 use Rattle.checks.specs.Refusals.{refusal_in}
 use Rattle.std.specs.Prelude.{Ok}
 use Rattle.state.specs.declared.Sizes.{Sizes}
@@ -11,7 +14,6 @@ use Rattle.synod.proofs.Machine.{blank_slot}
 use Rattle.synod.proofs.Past.{no_ghost}
 use Rattle.layout.specs.Places.{Fit}
 use Rattle.layout.proofs.PlaceLaws.{fit_of}
-use Rattle.layout.specs.Cells.{limits_of}
 use Rattle.room.specs.Open.{opening, opened, opened_cells}
 use Rattle.room.proofs.OpenLaws.{accepted}
 use Rattle.history.specs.Calls.{Call}
@@ -60,12 +62,13 @@ module _ (z : Sizes) (first : ℕ → ℕ) (room : List ℕ) (s : Shown z first 
             ∙ ap (λ (l : List ℕ). (folded start l).cells) prefix;
       }
 
-from_opened : (z : Sizes) → Fit z → (calls : List Call) → OneHistory z (opened_cells z) calls
+from_opened
+    : (z : Sizes) (limits : List ℕ) → Fit z → length limits ≡ cabinets → limits_fit limits ≡ true → (calls : List Call)
+    → OneHistory z (opened_cells z limits) calls
 unfolding commands_of
-from_opened z fit calls =
-    let cells = opened_cells z in
-    let limits = limits_of cells in
-    let now = opens z fit in
+from_opened z limits fit eight hoards calls =
+    let cells = opened_cells z limits in
+    let now = opens z limits fit eight hoards in
     let first : ℕ → ℕ = λ t. first_output t (history cells calls) in
     record {
       machines = follows limits z cells (λ t. no_ghost) (λ t. blank_slot) now calls;
@@ -79,7 +82,9 @@ from_opened z fit calls =
 
 -- DEMAND 3
 pub one_history
-    : (z : Sizes) (row : List ℕ) → refusal_in (opening z row) ≡ 0 → (calls : List Call) → OneHistory z (opened z row) calls
-one_history z row e calls =
-    let o = accepted z row e in
-    subst (λ (cells : List ℕ). OneHistory z cells calls) (sym o.room) (from_opened z (fit_of z o.fits) calls)
+    : (z : Sizes) (limits row : List ℕ) → refusal_in (opening z limits row) ≡ 0 → (calls : List Call)
+    → OneHistory z (opened z limits row) calls
+one_history z limits row e calls =
+    let o = accepted z limits row e in
+    subst (λ (cells : List ℕ). OneHistory z cells calls) (sym o.room)
+    (from_opened z limits (fit_of z o.fits) o.eight o.hoards calls)

@@ -6,6 +6,7 @@
 
 pub use catalogue::{Counts, PIECES, STRUCK, catalogue, entered};
 pub use checks::Refusal;
+pub use command::Limits;
 pub use free_slots::asking::ask;
 pub use free_slots::putting::put;
 pub use layout::{block_place, length_of, server_place};

@@ -17,7 +17,7 @@ ghost use Rattle.catalogue.specs.Call.{catalogue_of, catalogue_cells};
 ghost use Rattle.register_c.specs.Packing.{packed, packed_by, packed_answer, packed_number, packed_listing, packed_reading};
 ghost use Rattle.register_c.specs.Calls.{record_answered, record_stepped, fields_reading, fields_read};
 
-use register::{Fields, Refusal};
+use register::{Fields, Limits, Refusal};
 use state::{Answer, Sizes};
 
 // The cells of a room of these sizes, 0 where they do not fit.
@@ -61,14 +61,20 @@ pub extern "C" fn register_block_at(
     register::block_place(z, server, slot, drive) as u32
 }
 
-// Makes the row a new room: 0, or the refusal's number.
+// Makes the row a new room with the limits of the eight cabinets: 0, or the refusal's number.
 #[unsafe(no_mangle)]
-pub extern "C" fn register_open(row: &mut [u32], servers: u32, drives: u32, slots: u32) -> u32
-    ensures { (result ≡ refusal_in (opening (sizes servers drives slots) row.old))
-        × (row.new ≡ opened (sizes servers drives slots) row.old) }
+pub extern "C" fn register_open(
+    row: &mut [u32],
+    servers: u32,
+    drives: u32,
+    slots: u32,
+    limits: &[u32],
+) -> u32
+    ensures { (result ≡ refusal_in (opening (sizes servers drives slots) limits.now row.old))
+        × (row.new ≡ opened (sizes servers drives slots) limits.now row.old) }
 {
     let z = Sizes::new(servers, drives, slots);
-    register::open(row, z).err().map_or(0, Refusal::number)
+    open_by(row, z, limits).err().map_or(0, Refusal::number)
 }
 
 // Takes the step of a record. A record that cannot be read is refused, and the room is left alone.
@@ -142,6 +148,18 @@ pub extern "C" fn register_write(
 {
     let f = Fields::new(kind, server, slot, drive, other, number);
     word(register::write_fields(f, bytes).map(|used| used as u64))
+}
+
+// Opens the room by the limits that are lent. Not eight are refused as a row of another length is.
+#[tactic(auto, unfolding(room::specs::Open::opening, room::specs::Open::opened, room::specs::Open::open_checks, checks::specs::Checks::must))]
+fn open_by(row: &mut [u32], z: Sizes, limits: &[u32]) -> Result<(), Refusal>
+    ensures { (result ≡ opening z limits.now row.old) × (row.new ≡ opened z limits.now row.old) }
+{
+    match limits.as_array() {
+        Some(limits) => register::open(row, z, Limits(*limits)),
+        None if layout::sizes_fit(z) => Err(Refusal::WrongLength),
+        None => Err(Refusal::SizesUnfit),
+    }
 }
 
 // What the step of a record answers. `?` hands a refusal on, and not `and_then`, since a closure that takes the step would

@@ -1,12 +1,14 @@
 -- What an answer of open says where the row is as long as the sizes ask.
 use Prim.Native.Nat.{ℕ, ◌+◌, ◌*◌, ◌^◌, ◌≤◌, ◌<◌}
 use native.Mathlib.Omega.{arith}
-use mathlib.Core.Path.{◌≡◌, ◌∙◌, sym, ap, ap₂, subst}
+use mathlib.Core.Path.{◌≡◌, refl, ◌∙◌, sym, ap, ap₂, subst}
 use mathlib.Core.Bool.{Bool, true, false, cond}
 use mathlib.Core.List.{List, ◌++◌}
 use lib.ListN.{length, get_or, drop}
+use lib.Dec.{eqb}
 use borrow.Author.Tests.{eq-eqb, lt-ltb, le-ltb}
-use Rattle.lemmas.proofs.Tests.{by_test}
+use Rattle.lemmas.proofs.Tests.{by_test, and_intro}
+use Rattle.command.specs.Command.{limits_fit, cabinet_limits}
 use Rattle.state.specs.declared.Sizes.{Sizes}
 use Rattle.layout.specs.Places.{sizes_fit, room_length, length_of}
 use Rattle.layout.specs.Cells.{sizes_of}
@@ -31,26 +33,29 @@ one_line
 one_line k fits room p = adds_more (omega arith) (adds_line p (omega arith) (open_max k fits) (omega arith))
 
 module _ (z : Sizes) (row : List ℕ) where
-  -- where the sizes fit and the row is exact, so is all that open asks
-  pub opens_exact : sizes_fit z ≡ true → length row ≡ room_length z → Opens z row (Ok tt) (opened_room z)
-  opens_exact fits exact = opens_room z row fits (eq-eqb (length row) (room_length z) exact)
+  -- where the sizes fit and the row is exact, so is all that open asks: 01's limits are eight hoards
+  pub opens_exact : sizes_fit z ≡ true → length row ≡ room_length z → Opens z cabinet_limits row (Ok tt) (opened_room z)
+  opens_exact fits exact =
+      opens_room z cabinet_limits row fits
+      (and_intro (eqb (length row) (room_length z)) true (eq-eqb (length row) (room_length z) exact) refl)
+      (unfold limits_fit in refl)
 
-  pub opened_fits : opening z row ≡ Ok tt → sizes_fit z ≡ true
-  opened_fits e = (accepted z row (ap refusal_in e)).fits
+  pub opened_fits : opening z cabinet_limits row ≡ Ok tt → sizes_fit z ≡ true
+  opened_fits e = (accepted z cabinet_limits row (ap refusal_in e)).fits
 
   -- the only refusal is that of the sizes
-  refused_is : {n : Refusal} → length row ≡ length_of z → opening z row ≡ Err n → (sizes_fit z ≡ false) × (1 ≡ refusal_number n)
+  refused_is : {n : Refusal} → length row ≡ length_of z → opening z cabinet_limits row ≡ Err n → (sizes_fit z ≡ false) × (1 ≡ refusal_number n)
   refused_is {n} exact e =
       by_test (sizes_fit z)
       (λ a.
       let b = (opens_exact a (exact ∙ ap (λ (x : Bool). cond x (room_length z) 0) a)).answers in
       let c : ◌≡◌ {A = ℕ} 0 1 = cc in
       absurd (omega arith))
-      (λ a. (a, ap refusal_in ((opens_1 z row a).answers ∙ e)))
+      (λ a. (a, ap refusal_in ((opens_1 z cabinet_limits row a).answers ∙ e)))
 
   -- the text of a room that was opened, and of one that was not
   pub opened_text
-      : {cells after : List ℕ} {start text : Transcript} (s : Script) → opening z row ≡ Ok tt → cells ≡ opened z row
+      : {cells after : List ℕ} {start text : Transcript} (s : Script) → opening z cabinet_limits row ≡ Ok tt → cells ≡ opened z cabinet_limits row
       → after ≡ room_after cells s
       → Adds start (record_lines 0 cells s ++ server_lines after z.servers) text (step_max * record_max + line_max * z.servers)
       → Adds start (run_text z s) text text_max
@@ -58,7 +63,7 @@ module _ (z : Sizes) (row : List ℕ) where
   opened_text {cells} {after} {start} {text} s e same then a =
       let fits = opened_fits e in
       let few = (fit_of z fits).servers in
-      let is : cells ≡ opened_room z = same ∙ (accepted z row (ap refusal_in e)).room in
+      let is : cells ≡ opened_room z = same ∙ (accepted z cabinet_limits row (ap refusal_in e)).room in
       let whole = record_lines 0 (opened_room z) s ++ server_lines (room_after (opened_room z) s) z.servers in
       let text_is : record_lines 0 cells s ++ server_lines after z.servers ≡ run_text z s =
       ap (λ (r : List ℕ). record_lines 0 cells s ++ server_lines r z.servers) then
@@ -67,7 +72,7 @@ module _ (z : Sizes) (row : List ℕ) where
       adds_more (omega (arith, few)) (subst (λ (l : List ℕ). Adds start l text (step_max * record_max + line_max * z.servers)) text_is a)
 
   pub refused_text
-      : {start text : Transcript} {n : Refusal} {k : ℕ} (s : Script) → length row ≡ length_of z → opening z row ≡ Err n
+      : {start text : Transcript} {n : Refusal} {k : ℕ} (s : Script) → length row ≡ length_of z → opening z cabinet_limits row ≡ Err n
       → HasLeft start text_max → k ≡ refusal_number n → Prints start (open_line k) text → Adds start (run_text z s) text text_max
   unfolding run_text
   refused_text {start} {text} {n} {k} s exact e room told p =

@@ -5,7 +5,7 @@ use mathlib.Core.Path.{◌≡◌, refl}
 use lib.ListN.{length}
 use lib.Chars.{codes}
 use lib.Count.{ones_in, ones}
-use Rattle.command.specs.Command.{limit_of, hoard_fits, is_command}
+use Rattle.command.specs.Command.{limits_fit, limit_of, hoard_fits, is_command}
 use Rattle.ballot.specs.Ballot.{owned, least_above, next_own}
 use Rattle.quorum.specs.Marks.{stands, marked}
 use Rattle.quorum.specs.Sets.{all_below, size, gathered, majority, within}
@@ -39,7 +39,7 @@ pub sample
     (1 ∷ 1 ∷ 1 ∷ 16 ∷ 1 ∷ 9 ∷ 5 ∷ 1 ∷ 0 ∷ 16 ∷ 3 ∷ 1 ∷ 0 ∷ 0 ∷ 0 ∷ 0 ∷ 2 ∷ 16 ∷ 3 ∷ 1 ∷ 0 ∷ 0 ∷ 0 ∷ 0 ∷ 5 ∷ 0 ∷ 7 ∷ 0 ∷ 5 ∷ 0 ∷ 7 ∷ [])
     ≡ codes "0 done 0\n1 refused 10\n2 done 0\n3 done 0\n4 done 0\n5 chosen 66825\n6 done 0\n7 committed 66825\nserver 0 taken 1 skipped 0\n"
 unfolding ones ones_in
-    limit_of hoard_fits is_command owned least_above next_own stands marked all_below size gathered majority within
+    limits_fit limit_of hoard_fits is_command owned least_above next_own stands marked all_below size gathered majority within
     places_fit command_fits
     meeting marking topping recalling rejoining bidding writing reading proposing agreeing
     must offer_rule recall_rule rejoin_rule bid_rule write_rule outbid_rule read_rule finish_rule

@@ -1,6 +1,7 @@
 -- What the program rehearse prints (SPEC, "Step records").
 use Rattle.std.specs.Prelude.{ℕ, zero, suc, ◌+◌, ◌≡◌, cond, List, [], ◌∷◌, ◌++◌, length, drop, replicate, ltb, Result, Err, MatchResult}
 use Rattle.checks.specs.declared.Refusal.{Refusal}
+use Rattle.command.specs.Command.{cabinet_limits}
 use Rattle.state.specs.declared.Sizes.{Sizes}
 use Rattle.state.specs.declared.Step.{Step}
 use Rattle.state.specs.Answers.{Answered}
@@ -52,9 +53,9 @@ unfoldable pub server_lines : List ℕ → ℕ → List ℕ
 server_lines room zero = []
 server_lines room (suc n) = server_lines room n ++ line_of room n
 
--- the room that rehearse opens
+-- the room that rehearse opens: its limits are 01's
 abbrev pub opened_room : Sizes → List ℕ
-opened_room z = opened_cells z
+opened_room z = opened_cells z cabinet_limits
 
 -- what a room of these sizes prints for a script: the lines of the records, then those of the servers; sizes that do not
 -- fit print one line

@@ -13,7 +13,7 @@ ghost use Rattle.rehearsal.specs.Output.{Rehearses};
 
 use input::read_full;
 use records::Records;
-use register::{Answer, Refusal, Step};
+use register::{Answer, Limits, Refusal, Step};
 use state::Sizes;
 use std::io;
 use std::io::{Read, Write};
@@ -84,7 +84,7 @@ fn run(z: Sizes, records: &[u8], cells: &mut [u32; CELLS_MAX], text: &mut Transc
     ensures { Adds text.old (run_text z (script records.now)) text.new text_max }
 {
     let room = &mut cells[..layout::length_of(z)];
-    match register::open(room, z) {
+    match register::open(room, z, Limits::of_cabinets()) {
         Ok(()) => {
             steps(records, room, text);
             servers(z.servers, room, text);

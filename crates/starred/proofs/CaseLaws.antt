@@ -51,16 +51,18 @@ fits_least n d s e =
       slots = omega arith;
     })
 
-unopened : (n number d s : ℕ) (row : List ℕ) → is_unopened n number ≡ true → IsUnopened (sizes n d s) number row
-unopened n number d s row e =
+unopened
+    : (n number d s : ℕ) (limits row : List ℕ) → is_unopened n number ≡ true → IsUnopened (sizes n d s) number limits row
+unopened n number d s limits row e =
     let z : Sizes = sizes n d s in
     let least : Sizes = sizes n 1 1 in
-    let t = both (not (sizes_fit least)) (eqb (refusal_in (opening least [])) number) e in
+    let t = both (not (sizes_fit least)) (eqb (refusal_in (opening least [] [])) number) e in
     let none : sizes_fit least ≡ false = not-true (sizes_fit least) t.0 in
     let unfit : sizes_fit z ≡ false =
     by_test (sizes_fit z) (λ f. absurd (true≢false (sym (fits_least n d s f) ∙ none))) (λ f. f) in
-    let o : Opens z row (Err SizesUnfit) row = opens_1 z row unfit in
-    let one : 1 ≡ number = ap refusal_in (opens_1 least [] none).answers ∙ eqb-true (refusal_in (opening least [])) number t.1 in
+    let o : Opens z limits row (Err SizesUnfit) row = opens_1 z limits row unfit in
+    let one : 1 ≡ number =
+    ap refusal_in (opens_1 least [] [] none).answers ∙ eqb-true (refusal_in (opening least [] [])) number t.1 in
     record { refused = sym (ap refusal_in o.answers) ∙ one; kept = sym o.leaves }
 
 command : (v k p h : ℕ) → holds (Command v k p h) ≡ true → IsCommand v k p h
@@ -85,7 +87,7 @@ unfolding holds
 case_says (Length n d s cells) e =
     let t = both (sizes_fit (sizes n d s)) (eqb (room_length (sizes n d s)) cells) e in
     (t.0, eqb-true (room_length (sizes n d s)) cells t.1)
-case_says (Unopened n number) e = λ d s row. unopened n number d s row e
+case_says (Unopened n number) e = λ d s limits row. unopened n number d s limits row e
 case_says (Command v k p h) e = command v k p h e
 case_says (NoCommand v number) e =
     let word = eqb (code_of (offered v)) 4 in

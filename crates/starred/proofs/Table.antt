@@ -4,7 +4,7 @@ use mathlib.Core.Path.{◌≡◌, refl}
 use mathlib.Core.Bool.{true}
 use mathlib.Core.List.{List, [], ◌∷◌}
 use lib.Count.{ones_in, ones}
-use Rattle.command.specs.Command.{limit_of, hoard_fits, is_command}
+use Rattle.command.specs.Command.{limits_fit, limit_of, hoard_fits, is_command}
 use Rattle.ballot.specs.Ballot.{owned, least_above, next_own}
 use Rattle.quorum.specs.Marks.{stands, marked}
 use Rattle.quorum.specs.Sets.{all_below, size, gathered, majority, within}
@@ -28,7 +28,7 @@ use Rattle.starred.proofs.CaseLaws.{case_says}
 -- by computing every test: the line names all that the definitions of open and step are made of
 pub starred_hold : all_hold starred ≡ true
 unfolding all_hold starred holds new_room own on_drive same_answer same_block replays ones_in ones
-    limit_of hoard_fits is_command owned least_above next_own stands marked all_below size gathered majority within
+    limits_fit limit_of hoard_fits is_command owned least_above next_own stands marked all_below size gathered majority within
     places_fit command_fits
     meeting marking topping recalling rejoining bidding writing reading proposing
     must offer_rule recall_rule rejoin_rule bid_rule write_rule outbid_rule read_rule finish_rule

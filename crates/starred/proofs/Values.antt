@@ -28,14 +28,14 @@ use Rattle.starred.specs.Starred.{met, proposed, recalled, starred}
 use Rattle.starred.proofs.RunLaws.{later}
 use Rattle.starred.proofs.Table.{starred_says}
 
-pub largest_length : room_length (sizes 4 7 16) ≡ 2500
+pub largest_length : room_length (sizes 4 7 16) ≡ 2508
 unfolding starred
 largest_length = (starred_says 1).1
 
--- whatever the drives, the slots and the row
-pub no_servers : (d s : ℕ) (row : List ℕ) → refusal_in (opening (sizes 0 d s) row) ≡ 1
+-- whatever the drives, the slots, the limits and the row
+pub no_servers : (d s : ℕ) (limits row : List ℕ) → refusal_in (opening (sizes 0 d s) limits row) ≡ 1
 unfolding starred
-no_servers d s row = (starred_says 2 d s row).refused
+no_servers d s limits row = (starred_says 2 d s limits row).refused
 
 -- what is refused with a number is told by the number
 refused_told : (a : Answered) (r : Refusal) → code_of a ≡ 4 → number_of a ≡ refusal_number r → refusal_in a ≡ refusal_number r

@@ -21,7 +21,7 @@ use Rattle.starred.specs.Runs.{new_room, Line, Replays, same_answer, replays}
 pub data Case : Type 0 where
   -- a room of these sizes has so many cells
   Length : (servers drives slots cells : ℕ) → Case
-  -- with so many servers, whatever the drives, the slots and the row, open is refused with the number
+  -- with so many servers, whatever the drives, the slots, the limits and the row, open is refused with the number
   Unopened : (servers number : ℕ) → Case
   -- a command, with its parts
   Command : (v kind piece hoard : ℕ) → Case
@@ -34,9 +34,9 @@ pub data Case : Type 0 where
   -- a run in a room of so many servers and drives
   Run : (servers drives : ℕ) → List Line → Case
 
--- a room of one slot, just opened
+-- a room of one slot, just opened by 01's limits
 abbrev pub small_room : ℕ → ℕ → List ℕ
-small_room servers drives = new_room (sizes servers drives 1)
+small_room servers drives = new_room (sizes servers drives 1) cabinet_limits
 
 -- what the smallest answers to an Offer of v
 abbrev pub offered : ℕ → Answered
@@ -59,14 +59,14 @@ pub record IsCommand (v k p h : ℕ) : Type 0 where
   pub accepted : offered v ≡ Ok Done
 
 -- open refuses these sizes with the number and leaves the row as it was
-pub record IsUnopened (z : Sizes) (number : ℕ) (row : List ℕ) : Type 0 where
-  pub refused : refusal_in (opening z row) ≡ number
-  pub kept : opened z row ≡ row
+pub record IsUnopened (z : Sizes) (number : ℕ) (limits row : List ℕ) : Type 0 where
+  pub refused : refusal_in (opening z limits row) ≡ number
+  pub kept : opened z limits row ≡ row
 
 -- what a case says
 abbrev pub Says : Case → Type 0
 Says (Length n d s cells) = (sizes_fit (sizes n d s) ≡ true) × (room_length (sizes n d s) ≡ cells)
-Says (Unopened n number) = (d s : ℕ) (row : List ℕ) → IsUnopened (sizes n d s) number row
+Says (Unopened n number) = (d s : ℕ) (limits row : List ℕ) → IsUnopened (sizes n d s) number limits row
 Says (Command v k p h) = IsCommand v k p h
 Says (NoCommand v number) = (is_command cabinet_limits v ≡ false) × (code_of (offered v) ≡ 4) × (number_of (offered v) ≡ number)
 Says (Owned n b p) = (owned n p b ≡ true) × ((q : ℕ) → q < n → owned n q b ≡ true → q ≡ p)
@@ -74,9 +74,9 @@ Says (Majority d counts) = (m : ℕ) → m < 2 ^ d → majority d (stands m) ≡
 Says (Run n d run) = Replays (small_room n d) run
 
 -- A number of servers that does not fit with one drive and one slot fits with no others, and sizes that do not fit are
--- refused before the row is looked at: the smallest drives and slots and the empty row show the number for all.
+-- refused before the rest is looked at: the smallest drives and slots, no limits and the empty row show the number for all.
 abbrev pub is_unopened : ℕ → ℕ → Bool
-is_unopened n number = not (sizes_fit (sizes n 1 1)) && eqb (refusal_in (opening (sizes n 1 1) [])) number
+is_unopened n number = not (sizes_fit (sizes n 1 1)) && eqb (refusal_in (opening (sizes n 1 1) [] [])) number
 
 -- the test of a case
 unfoldable pub holds : Case → Bool

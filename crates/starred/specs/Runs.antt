@@ -12,8 +12,8 @@ use Rattle.room.specs.Open.{opened}
 use Rattle.room.specs.Step.{answered, stepped}
 
 -- what open makes of a row of the right length, in which every old cell is 9
-unfoldable pub new_room : Sizes → List ℕ
-new_room z = opened z (replicate (room_length z) 9)
+unfoldable pub new_room : Sizes → List ℕ → List ℕ
+new_room z limits = opened z limits (replicate (room_length z) 9)
 
 infix 70 ◌↝◌
 -- one line of a run: a step and its answer, a server's own block, or a server's block on a drive

@@ -78,8 +78,8 @@ both_drives = 3
 unfoldable pub starred : List Case
 starred =
     -- lengths of rooms; no room has no server
-    Length 1 1 1 19
-    ∷ Length 4 7 16 2500
+    Length 1 1 1 27
+    ∷ Length 4 7 16 2508
     ∷ Unopened 0 1
     -- commands, and numbers that are none
     ∷ Command 81724 enter 63 60

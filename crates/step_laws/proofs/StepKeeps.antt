@@ -91,7 +91,7 @@ module _ (limits : List ℕ) (z : Sizes) (r : List ℕ) (w : Whole limits z r) w
   unfolding effect_of
   effect_kept st e f = view_kept (view_of st) _ (ruling (rule_at z r st)) refl (in_view z st e) (rule_keeps st e f)
 
-whole_of : (r : List ℕ) → in_range r ≡ true → Whole (limits_of r) (sizes_of r) r
+pub whole_of : (r : List ℕ) → in_range r ≡ true → Whole (limits_of r) (sizes_of r) r
 whole_of r e = record { range = range_says r e; sizes = refl; table = refl }
 
 -- a room in range is left in range, with its sizes, its limits and its length
@@ -113,3 +113,13 @@ pub step_length : (r : List ℕ) (st : Step) → in_range r ≡ true → length 
 step_length r st i =
     let w = step_whole r st i in
     w.range.row.exact ∙ sym (whole_of r i).range.row.exact
+
+-- no step alters the limits, in any row at all
+pub step_limits : (r : List ℕ) (st : Step) → limits_of (stepped r st) ≡ limits_of r
+unfolding stepped settled
+step_limits r st =
+    by_checks r st (λ e. limits_of (left_by (settled (sizes_of r) r) r e) ≡ limits_of r)
+    (λ a. refl)
+    (λ a b. refl)
+    (λ a b c. refl)
+    (λ a b c. (effect_kept (limits_of r) (sizes_of r) r (whole_of r a) st b c).table)

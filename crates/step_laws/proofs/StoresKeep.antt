@@ -47,6 +47,7 @@ module _ (limits : List ℕ) (z : Sizes) where
         range =
             record {
               row = server_row z r row s p v;
+              hoards = w.range.hoards;
               off = ap (λ (m : ℕ). within m (legal_drives z)) (server_off z r row s p v) ∙ w.range.off;
               servers =
                   λ t q k m.
@@ -78,6 +79,7 @@ module _ (limits : List ℕ) (z : Sizes) where
         range =
             record {
               row = block_row z r row s d p b;
+              hoards = w.range.hoards;
               off = ap (λ (m : ℕ). within m (legal_drives z)) (block_off z r row s d p b) ∙ w.range.off;
               servers =
                   λ t q m n.
@@ -106,6 +108,7 @@ module _ (limits : List ℕ) (z : Sizes) where
         range =
             record {
               row = off_row z r row m;
+              hoards = w.range.hoards;
               off =
                   ap (λ (x : ℕ). within x (legal_drives z))
                   (get_or-set_same r off_at m 0 (omega (arith, row_head z r row)))

@@ -1,7 +1,7 @@
 -- The examples, by computing every answer and the last catalogues.
 use mathlib.Core.Path.{refl}
 use lib.Count.{ones_in, ones}
-use Rattle.command.specs.Command.{limit_of, hoard_fits, is_command}
+use Rattle.command.specs.Command.{limits_fit, limit_of, hoard_fits, is_command}
 use Rattle.ballot.specs.Ballot.{owned, least_above, next_own}
 use Rattle.quorum.specs.Marks.{stands, marked, unmarked}
 use Rattle.quorum.specs.Sets.{all_below, size, gathered, majority, within}
@@ -25,13 +25,13 @@ use Rattle.starred.specs.Runs.{new_room}
 use Rattle.history.specs.Run.{ran, history, move_of, output_by, first_output}
 use Rattle.register.specs.OneHistory.{commands_of}
 use Rattle.witness.specs.Example.{calls_of, said, Worked}
-use Rattle.witness.specs.Runs.{survivor, rivals, gap, halves, asks, learners, strikes, reuses}
+use Rattle.witness.specs.Runs.{survivor, rivals, gap, halves, asks, learners, strikes, reuses, own_limits}
 use Rattle.witness.proofs.Reading.{Computed, holds}
 
 -- the lines name all that the definitions of open, step, ask, put and catalogue are made of
-computed : Computed survivor × Computed rivals × Computed gap × Computed halves × Computed asks × Computed learners × Computed strikes × Computed reuses
-unfolding survivor rivals gap halves asks learners strikes reuses new_room calls_of ran history ones_in ones
-    limit_of hoard_fits is_command owned least_above next_own stands marked unmarked all_below size gathered majority within
+computed : Computed survivor × Computed rivals × Computed gap × Computed halves × Computed asks × Computed learners × Computed strikes × Computed reuses × Computed own_limits
+unfolding survivor rivals gap halves asks learners strikes reuses own_limits new_room calls_of ran history ones_in ones
+    limits_fit limit_of hoard_fits is_command owned least_above next_own stands marked unmarked all_below size gathered majority within
     places_fit command_fits
     meeting marking topping recalling rejoining bidding writing reading proposing agreeing
     must offer_rule recall_rule rejoin_rule write_rule outbid_rule read_rule finish_rule
@@ -41,7 +41,7 @@ unfolding survivor rivals gap halves asks learners strikes reuses new_room calls
     free_at first_from lowest_free ask_checks asked put_rule put_judged put_answered put_cells
     applies entry cells_after skipped_by folded output_at leading outputs_of entries_of catalogue_checks catalogue_of catalogue_cells
     said commands_of first_output output_by move_of
-computed = (refl, refl, refl, refl, refl, refl, refl, refl)
+computed = (refl, refl, refl, refl, refl, refl, refl, refl, refl)
 
 -- one server commits and fails, and the other, with another offer, commits the same command
 pub survivor_holds : Worked survivor
@@ -74,3 +74,7 @@ strikes_holds = holds strikes computed.6
 -- an enter, a move and a strike of its number after that are skipped
 pub reuses_holds : Worked reuses
 reuses_holds = holds reuses computed.7
+
+-- a command is judged by the room's own limits
+pub own_limits_hold : Worked own_limits
+own_limits_hold = holds own_limits computed.8

@@ -57,7 +57,7 @@ record Values (n : ℕ) : Type 0 where
 abbrev values_of : (e : Example) → Values e.sizes.servers
 values_of e =
     record {
-      opens = refusal_in (opening e.sizes (replicate (room_length e.sizes) 9));
+      opens = refusal_in (opening e.sizes e.limits (replicate (room_length e.sizes) 9));
       answers = history_of e;
       chosen = said chosen_code e.run;
       committed = said committed_code e.run;
@@ -83,9 +83,9 @@ module _ (e : Example) (c : Computed e) where
   told : history_of e ≡ e.run
   told i = (c i).answers
 
-  one : OneHistory e.sizes (new_room e.sizes) (calls_of e.run)
+  one : OneHistory e.sizes (new_room e.sizes e.limits) (calls_of e.run)
   unfolding new_room
-  one = one_history e.sizes (replicate (room_length e.sizes) 9) (λ i. (c i).opens) (calls_of e.run)
+  one = one_history e.sizes e.limits (replicate (room_length e.sizes) 9) (λ i. (c i).opens) (calls_of e.run)
 
   commands : commands_of e.sizes (history_of e) ≡ e.commands
   commands = ap (commands_of e.sizes) told ∙ (λ i. (c i).commands)
@@ -93,7 +93,7 @@ module _ (e : Example) (c : Computed e) where
   -- the theorem's first k commands, for the k that was computed
   first : (p : ℕ) → p < e.sizes.servers → Lists e p → IsFirst e p
   first p h l =
-      let s = at_last _ (new_room e.sizes) (calls_of e.run) one.catalogues p h lent refl in
+      let s = at_last _ (new_room e.sizes e.limits) (calls_of e.run) one.catalogues p h lent refl in
       let k : s.k ≡ get_or e.taken p 0 = sym s.taken ∙ ap taken_of l.answer in
       let result : folded start (take s.k (commands_of e.sizes (history_of e))) ≡ folded start (take (get_or e.taken p 0) e.commands) =
       ap₂ (λ (j : ℕ) (vs : List ℕ). folded start (take j vs)) k commands in

@@ -13,6 +13,7 @@ use Rattle.register.specs.OneHistory.{commands_of, OneHistory}
 -- a run with what is expected of it
 pub record Example : Type 0 where
   pub sizes : Sizes
+  pub limits : List ℕ
   -- the calls, each with its answer
   pub run : List Event
   -- the commands answered as chosen and as committed, in order
@@ -35,10 +36,10 @@ calls_of [] = []
 calls_of (e ∷ h) = call_of e ∷ calls_of h
 
 abbrev pub history_of : Example → List Event
-history_of e = history (new_room e.sizes) (calls_of e.run)
+history_of e = history (new_room e.sizes e.limits) (calls_of e.run)
 
 abbrev pub last_room : Example → List ℕ
-last_room e = ran (new_room e.sizes) (calls_of e.run)
+last_room e = ran (new_room e.sizes e.limits) (calls_of e.run)
 
 -- the numbers beside the answers with one word, in order
 unfoldable pub said : ℕ → List Event → List ℕ
@@ -71,7 +72,7 @@ pub record Worked (e : Example) : Type 0 where
   -- every call is answered as it is told
   pub answers : history_of e ≡ e.run
   -- demand 3 for these very calls
-  pub one : OneHistory e.sizes (new_room e.sizes) (calls_of e.run)
+  pub one : OneHistory e.sizes (new_room e.sizes e.limits) (calls_of e.run)
   pub chosen : said chosen_code (history_of e) ≡ e.chosen
   pub committed : said committed_code (history_of e) ≡ e.committed
   pub commands : commands_of e.sizes (history_of e) ≡ e.commands

@@ -1,8 +1,9 @@
 -- Six runs of two servers: a command that survives its server, two rivals, a slot beyond an empty one, half of the drives,
--- lines that are asked for and filled, and a settled command that is learned. Two of one server: a strike, and a struck
--- number that is used again in vain.
+-- lines that are asked for and filled, and a settled command that is learned. Three of one server: a strike, a struck
+-- number that is used again in vain, and a command that only the room's own limits allow. All are in rooms with limits of
+-- their own.
 use Rattle.std.specs.Prelude.{ℕ, List, [], ◌∷◌, ◌++◌, set, replicate, Ok, Err}
-use Rattle.checks.specs.declared.Refusal.TheVariants.{DriveIsOff, NoMajority, SlotNotFree, NoSlotFree}
+use Rattle.checks.specs.declared.Refusal.TheVariants.{NoCommand, DriveIsOff, NoMajority, SlotNotFree, NoSlotFree}
 use Rattle.state.specs.declared.Answer.TheVariants.{Done, Outbid, Chosen, Committed}
 use Rattle.state.specs.declared.Step.TheVariants.{Offer, Recall, Rejoin, Write, Read, Finish, Fail, DriveOff, DriveOn}
 use Rattle.catalogue.specs.Entry.{struck}
@@ -10,6 +11,10 @@ use Rattle.catalogue.specs.Fold.{pieces}
 use Rattle.state.specs.Sizes.{sizes}
 use Rattle.history.specs.Calls.{Event, Took, Asked, Put}
 use Rattle.witness.specs.Example.{Example}
+
+-- a museum's own limits, of cabinets 0 to 7
+abbrev pub museum_limits : List ℕ
+museum_limits = 12 ∷ 1 ∷ 255 ∷ 30 ∷ 120 ∷ 80 ∷ 60 ∷ 255 ∷ []
 
 -- enter piece 5 in hoard 9; enter piece 7 in hoard 3; move piece 5 to hoard 12; strike piece 5
 abbrev pub enter5 : ℕ
@@ -47,6 +52,7 @@ unfoldable pub survivor : Example
 survivor =
     record {
       sizes = sizes 2 1 2;
+      limits = museum_limits;
       run =
           (Took (Offer 0 0 enter5) (Ok Done) ∷ settles 0 1 0 1 enter5)
           ++ (Took (Fail 0) (Ok Done) ∷ Took (Offer 1 0 enter7) (Ok Done) ∷ settles 1 0 0 2 enter5)
@@ -74,6 +80,7 @@ unfoldable pub rivals : Example
 rivals =
     record {
       sizes = sizes 2 2 1;
+      limits = museum_limits;
       run =
           (joins 0 enter5 1 ++ round 0 1 ++ (Took (Finish 0 0) (Ok (Chosen enter5)) ∷ []))
           ++ (joins 1 enter7 2 ++ round 1 0 ++ (Took (Finish 1 0) (Ok (Chosen enter7)) ∷ []))
@@ -94,6 +101,7 @@ unfoldable pub gap : Example
 gap =
     record {
       sizes = sizes 2 1 2;
+      limits = museum_limits;
       run = Took (Offer 0 1 enter5) (Ok Done) ∷ settles 0 1 1 1 enter5;
       chosen = enter5 ∷ [];
       committed = enter5 ∷ [];
@@ -115,6 +123,7 @@ unfoldable pub halves : Example
 halves =
     record {
       sizes = sizes 2 2 1;
+      limits = museum_limits;
       run =
           (Took (DriveOff 1) (Ok Done) ∷ Took (Offer 0 0 enter5) (Ok Done) ∷ settles 0 1 0 1 enter5)
           ++ (Took (Offer 1 0 enter7) (Ok Done) ∷ Took (Recall 1 0 0) (Ok Done) ∷ Took (Rejoin 1 0 2) (Ok Done) ∷ [])
@@ -138,6 +147,7 @@ unfoldable pub asks : Example
 asks =
     record {
       sizes = sizes 2 1 2;
+      limits = museum_limits;
       run =
           (Asked 0 (Ok 0) ∷ Put 0 0 enter5 (Ok Done) ∷ Put 0 0 enter7 (Err SlotNotFree) ∷ Asked 0 (Ok 1) ∷ [])
           ++ (Asked 1 (Ok 0) ∷ Put 1 0 enter7 (Ok Done) ∷ [])
@@ -165,6 +175,7 @@ unfoldable pub learners : Example
 learners =
     record {
       sizes = sizes 2 2 1;
+      limits = museum_limits;
       run =
           (Took (Offer 0 0 enter5) (Ok Done) ∷ settles 0 1 0 1 enter5)
           ++ (Took (Write 0 0 0) (Ok Done) ∷ Took (Write 0 0 1) (Ok Done) ∷ [])
@@ -195,6 +206,7 @@ unfoldable pub strikes : Example
 strikes =
     record {
       sizes = sizes 1 1 2;
+      limits = museum_limits;
       run = alone 0 enter5 ++ alone 1 strike5;
       chosen = enter5 ∷ strike5 ∷ [];
       committed = enter5 ∷ strike5 ∷ [];
@@ -209,6 +221,7 @@ unfoldable pub reuses : Example
 reuses =
     record {
       sizes = sizes 1 1 5;
+      limits = museum_limits;
       run = alone 0 enter5 ++ alone 1 strike5 ++ alone 2 enter5 ++ alone 3 move5 ++ alone 4 strike5;
       chosen = enter5 ∷ strike5 ∷ enter5 ∷ move5 ∷ strike5 ∷ [];
       committed = enter5 ∷ strike5 ∷ enter5 ∷ move5 ∷ strike5 ∷ [];
@@ -216,4 +229,26 @@ reuses =
       taken = 5 ∷ [];
       skipped = 3 ∷ [];
       left = only 5 struck ∷ [];
+    }
+
+-- by the museum's limits piece 5 in hoard 13 is no command and piece 63 in hoard 255 is one; by 01's it is the other way
+abbrev pub enter5_high : ℕ
+enter5_high = 66829
+
+abbrev pub enter63 : ℕ
+enter63 = 81919
+
+-- The first is refused, and the second is settled.
+unfoldable pub own_limits : Example
+own_limits =
+    record {
+      sizes = sizes 1 1 1;
+      limits = museum_limits;
+      run = Took (Offer 0 0 enter5_high) (Err NoCommand) ∷ alone 0 enter63;
+      chosen = enter63 ∷ [];
+      committed = enter63 ∷ [];
+      commands = enter63 ∷ [];
+      taken = 1 ∷ [];
+      skipped = 0 ∷ [];
+      left = only 63 255 ∷ [];
     }

@@ -20,35 +20,9 @@ fn main() {
     machine::print();
     let sizes = SIZES.map(|(n, d, s)| Sizes::fit(n, d, s).expect("the sizes fit"));
     let mut tables = Tables::default();
-    tables.rooms("A step from its record; each step judges every cell");
-    for sizes in sizes {
-        tables.line("step", On::Room(sizes, "empty"), measure::steps(rooms::empty(sizes)));
-        tables.line("step", On::Room(sizes, "filled"), measure::steps(rooms::filled(sizes)));
-        tables.line("step", On::Room(sizes, "run"), measure::run(rooms::run(sizes)));
-    }
-    tables.rooms("Ask and then Put; each judges every cell");
-    for sizes in sizes {
-        let states = [
-            ("empty", rooms::empty(sizes).room),
-            ("filled", rooms::filled(sizes).room),
-            ("run", rooms::run(sizes).last),
-        ];
-        for (state, room) in states {
-            tables.line("ask, put", On::Room(sizes, state), measure::ask_then_put(room, sizes));
-        }
-    }
-    tables.rooms("The catalogue of a server");
-    for sizes in sizes {
-        let states = [
-            ("empty", rooms::empty(sizes).room),
-            ("filled", rooms::filled(sizes).room),
-            ("mixed", rooms::mixed(sizes)),
-            ("run", rooms::run(sizes).last),
-        ];
-        for (state, room) in states {
-            tables.line("catalogue", On::Room(sizes, state), measure::catalogue(room));
-        }
-    }
+    steps(&mut tables, sizes);
+    asks_and_puts(&mut tables, sizes);
+    catalogues(&mut tables, sizes);
     tables.records("Step records, one of each kind in turn");
     let records = rooms::one_of_each();
     let bytes = records.iter().map(Vec::len).sum::<usize>() as f64 / records.len() as f64;
@@ -60,4 +34,44 @@ fn main() {
     tables.line("in turn", found, ballots::next::<true>(&questions));
     tables.line("at once", found, ballots::next::<false>(&questions));
     bounds::print(&tables.lines);
+}
+
+fn steps(tables: &mut Tables, sizes: [Sizes; 4]) {
+    tables.rooms("A step from its record; each step judges every cell");
+    for sizes in sizes {
+        tables.line("step", On::Room(sizes, "empty"), measure::steps(rooms::empty(sizes)));
+        tables.line("step", On::Room(sizes, "filled"), measure::steps(rooms::filled(sizes)));
+        tables.line("step", On::Room(sizes, "limited"), measure::steps(rooms::limited(sizes)));
+        tables.line("step", On::Room(sizes, "run"), measure::run(rooms::run(sizes)));
+    }
+}
+
+fn asks_and_puts(tables: &mut Tables, sizes: [Sizes; 4]) {
+    tables.rooms("Ask and then Put; each judges every cell");
+    for sizes in sizes {
+        let states = [
+            ("empty", rooms::empty(sizes).room),
+            ("filled", rooms::filled(sizes).room),
+            ("run", rooms::run(sizes).last),
+        ];
+        for (state, room) in states {
+            tables.line("ask, put", On::Room(sizes, state), measure::ask_then_put(room, sizes));
+        }
+    }
+}
+
+fn catalogues(tables: &mut Tables, sizes: [Sizes; 4]) {
+    tables.rooms("The catalogue of a server");
+    for sizes in sizes {
+        let states = [
+            ("empty", rooms::empty(sizes).room),
+            ("filled", rooms::filled(sizes).room),
+            ("limited", rooms::limited(sizes).room),
+            ("mixed", rooms::mixed(sizes)),
+            ("run", rooms::run(sizes).last),
+        ];
+        for (state, room) in states {
+            tables.line("catalogue", On::Room(sizes, state), measure::catalogue(room));
+        }
+    }
 }

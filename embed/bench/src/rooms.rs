@@ -1,7 +1,7 @@
 //! The rooms and the steps that are timed.
 
 use other::generator::{Chance, Driver, Habits};
-use other::{least_own_above, Sizes};
+use other::{least_own_above, Limits, Sizes, USUAL_LIMITS};
 
 /// A room and records of steps that all are accepted in it, in any order.
 pub struct Work {
@@ -9,30 +9,46 @@ pub struct Work {
     pub records: Vec<Vec<u8>>,
 }
 
+/// Limits of a museum's own: no two cabinets have the same.
+const OWN_LIMITS: Limits = [90, 255, 31, 7, 120, 200, 12, 64];
+
 /// A room just opened. Each server recalls its block on each drive in each slot.
 pub fn empty(sizes: Sizes) -> Work {
-    let mut room = vec![0; sizes.length()];
-    let (servers, drives, slots) = (sizes.servers as u32, sizes.drives as u32, sizes.slots as u32);
-    other::open(&mut room, servers, drives, slots).expect("the sizes fit");
     let steps =
         places(sizes).map(|(server, slot, drive)| other::Step::Recall { server, slot, drive });
-    Work { room, records: steps.map(record).collect() }
+    Work { room: opened(sizes, &USUAL_LIMITS), records: steps.map(record).collect() }
+}
+
+fn opened(sizes: Sizes, limits: &Limits) -> Vec<u32> {
+    let mut room = vec![0; sizes.length()];
+    let (servers, drives, slots) = (sizes.servers as u32, sizes.drives as u32, sizes.slots as u32);
+    other::open(&mut room, servers, drives, slots, limits).expect("the sizes and the limits fit");
+    room
 }
 
 /// A room with a command in every cell that can hold one: every server has settled
 /// every slot and told it on every drive. Each server writes its block to each drive
 /// in each slot once more.
 pub fn filled(sizes: Sizes) -> Work {
-    let mut room = empty(sizes).room;
+    filled_by(sizes, &USUAL_LIMITS)
+}
+
+/// The same in a room with other limits.
+pub fn limited(sizes: Sizes) -> Work {
+    filled_by(sizes, &OWN_LIMITS)
+}
+
+fn filled_by(sizes: Sizes, limits: &Limits) -> Work {
+    let mut room = opened(sizes, limits);
     let mut chance = Chance::new(1);
     for slot in 0..sizes.slots {
         for server in 0..sizes.servers {
             let at = sizes.server_at(slot, server);
             let ballot =
                 least_own_above(chance.below(900_000), server as u32, sizes.servers as u32);
-            let (ballot, command) = (ballot.unwrap_or(1), command(&mut chance));
+            let (ballot, command) = (ballot.unwrap_or(1), command(&mut chance, limits));
             room[at..at + 4].copy_from_slice(&[3, ballot, ballot, command]);
-            room[at + 4] = self::command(&mut chance);
+            room[at + 4] = self::command(&mut chance, limits);
             room[at + 6] = ballot;
             room[at + 7] = command;
             room[at + 10] = command;
@@ -58,8 +74,8 @@ pub fn mixed(sizes: Sizes) -> Vec<u32> {
                 let at = sizes.block_at(slot, drive, server);
                 let ballots = [chance.below(900_000), chance.below(900_000)];
                 room[at..at + 2].copy_from_slice(&ballots);
-                room[at + 2] = command(&mut chance);
-                room[at + 3] = command(&mut chance);
+                room[at + 2] = command(&mut chance, &USUAL_LIMITS);
+                room[at + 3] = command(&mut chance, &USUAL_LIMITS);
             }
         }
     }
@@ -87,7 +103,7 @@ pub fn run(sizes: Sizes) -> Run {
         half_off: false,
     };
     let mut driver = Driver::new(&mut chance, sizes, habits);
-    let first = empty(sizes).room;
+    let first = opened(sizes, &USUAL_LIMITS);
     let mut room = first.clone();
     let mut records = Vec::new();
     for _ in 0..2_000 {
@@ -131,12 +147,12 @@ fn places(sizes: Sizes) -> impl Iterator<Item = (u8, u8, u8)> {
     all.into_iter()
 }
 
-/// Any command.
-fn command(chance: &mut Chance) -> u32 {
-    let piece = chance.below(64) << 8;
+/// Any command by these limits.
+fn command(chance: &mut Chance, limits: &Limits) -> u32 {
+    let piece = chance.below(64);
     match chance.from_to(1, 3) {
-        3 => 3 << 16 | piece,
-        kind => kind << 16 | piece | chance.from_to(1, 60),
+        3 => 3 << 16 | piece << 8,
+        kind => kind << 16 | piece << 8 | chance.from_to(1, limits[piece as usize / 8]),
     }
 }
 

@@ -1,7 +1,13 @@
-//! What a command is: kind, piece, hoard and the limits of the cabinets.
+//! What a command is: kind, piece and hoard, by the limits of a room's cabinets.
 
-/// The largest hoard of each cabinet.
-const LIMITS: [u8; 8] = [255, 255, 200, 200, 120, 120, 60, 60];
+/// The number of cabinets. Cabinet c has the pieces from 8c to 8c + 7.
+pub const CABINETS: usize = 8;
+
+/// The largest hoards of the cabinets of a room.
+pub type Limits = [u32; CABINETS];
+
+/// The limits of 01, with which rehearse opens its room.
+pub const USUAL_LIMITS: Limits = [255, 255, 200, 200, 120, 120, 60, 60];
 
 /// What a command asks for a piece.
 #[derive(Clone, Copy, Debug, PartialEq, Eq)]
@@ -34,39 +40,61 @@ pub(crate) fn hoard(value: u32) -> u32 {
     value & 255
 }
 
-/// The largest hoard of the cabinet of a piece, which is at most 63.
-pub(crate) fn limit(piece: u32) -> u32 {
-    LIMITS[piece as usize / 8].into()
+/// The cabinet of a piece.
+pub(crate) fn cabinet(piece: u32) -> usize {
+    piece as usize / 8
 }
 
-/// The first hoard that a command may have, and the number of hoards, at
-/// 256 * kind + piece. One look serves all kinds, without a branch for each.
-const HOARDS: [(u8, u8); 1024] = {
-    let mut hoards = [(0, 0); 1024];
-    let mut at = 0;
-    while at < hoards.len() {
-        hoards[at] = match (at / 256, at % 256) {
-            (1 | 2, piece @ 0..64) => (1, LIMITS[piece / 8]),
-            (3, 0..64) => (0, 1),
-            _ => (0, 0),
-        };
-        at += 1;
-    }
-    hoards
-};
+/// Whether every cabinet may have its limit.
+pub(crate) fn limits_fit(limits: &Limits) -> bool {
+    limits.iter().all(|limit| (1..=255).contains(limit))
+}
 
-/// Whether `value` is a command.
-#[inline]
-pub fn is_command(value: u32) -> bool {
-    match HOARDS.get((value >> 8) as usize) {
-        // The hoard is one of first, first + 1, ..., first + many - 1.
-        Some(&(first, many)) => (value as u8).wrapping_sub(first) < many,
+/// Whether `value` is a command by these limits.
+pub fn is_command(value: u32, limits: &Limits) -> bool {
+    let Some(&limit) = limits.get(cabinet(piece(value))) else {
+        return false;
+    };
+    match kind(value) {
+        Some(Kind::Enter | Kind::Move) => (1..=limit).contains(&hoard(value)),
+        Some(Kind::Strike) => hoard(value) == 0,
         None => false,
     }
 }
 
-/// Whether a cell that holds a command or none is in range.
-#[inline]
-pub(crate) fn is_command_or_none(value: u32) -> bool {
-    value == 0 || is_command(value)
+/// The commands of a room, for many looks in one call: how many hoards a command may
+/// name, in row 4 * kind for each cabinet. So a number divided by 2,048 is the place
+/// to look at, and one look serves all kinds, without a branch for each.
+pub(crate) struct Commands([[u8; CABINETS]; 16]);
+
+impl Commands {
+    /// The commands by these limits, none where a limit is outside its range.
+    #[inline]
+    pub(crate) fn by(limits: &Limits) -> Option<Commands> {
+        if !limits_fit(limits) {
+            return None;
+        }
+        let limits = limits.map(|limit| limit as u8);
+        let mut hoards = [[0; CABINETS]; 16];
+        (hoards[4], hoards[8], hoards[12]) = (limits, limits, [1; CABINETS]);
+        Some(Commands(hoards))
+    }
+
+    /// Whether a cell that holds a command or none is in range.
+    #[inline]
+    pub(crate) fn has_or_none(&self, value: u32) -> bool {
+        value == 0 || self.has(value)
+    }
+
+    /// Whether `value` is a command.
+    #[inline]
+    fn has(&self, value: u32) -> bool {
+        // The hoards of a strike begin with 0. Those of the other kinds begin with 1,
+        // and are counted from 0 here; hoard 0 becomes 255, which is too large.
+        let counted = value.wrapping_sub(u32::from(value < 3 << 16));
+        match self.0.as_flattened().get((counted >> 11) as usize) {
+            Some(&many) => (counted as u8) < many,
+            None => false,
+        }
+    }
 }

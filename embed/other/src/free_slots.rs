@@ -1,9 +1,8 @@
 //! Ask and Put: the lowest slot that is free for a server, and an offer in a
 //! slot that is.
 
-use crate::commands::is_command;
 use crate::refusal;
-use crate::room::judge;
+use crate::room::{has_command, judge};
 use crate::server::Server;
 
 /// The lowest slot that is free for `server`. No cell changes.
@@ -26,7 +25,7 @@ pub fn put(room: &mut [u32], server: u32, slot: u32, command: u32) -> Result<(),
     if server >= sizes.servers || slot >= sizes.slots {
         return Err(refusal::BEYOND);
     }
-    if !is_command(command) {
+    if !has_command(room, command) {
         return Err(refusal::NOT_A_COMMAND);
     }
     let at = sizes.server_at(slot, server);

@@ -24,10 +24,10 @@ mod steps;
 
 pub use ballots::{least_own_above, owner, BALLOT_LIMIT};
 pub use catalogue::{catalogue, PIECES, STRUCK};
-pub use commands::{is_command, Kind};
+pub use commands::{is_command, Kind, Limits, CABINETS, USUAL_LIMITS};
 pub use free_slots::{ask, put};
 pub use records::{read_record, write_record, LONGEST_RECORD};
 pub use rehearse::{rehearse, INPUT_LIMIT};
-pub use room::{judge, open, room_length, Sizes, MOST_CELLS};
+pub use room::{judge, limits_of, open, room_length, Sizes, MOST_CELLS};
 pub use server::{is_majority, Block, Server};
 pub use steps::{step, Answer, Step};

@@ -34,3 +34,5 @@ pub const MALFORMED: u32 = 15;
 pub const NOT_FREE: u32 = 16;
 /// No slot is free for the server.
 pub const NO_FREE_SLOT: u32 = 17;
+/// A limit of a cabinet outside 1 to 255.
+pub const LIMITS: u32 = 18;

@@ -1,6 +1,7 @@
 //! What the program rehearse prints for an input.
 
 use crate::catalogue::{catalogue, PIECES};
+use crate::commands::USUAL_LIMITS;
 use crate::records::read_record;
 use crate::refusal;
 use crate::room::{open, room_length, MOST_CELLS};
@@ -32,7 +33,7 @@ fn run(input: &[u8], out: &mut Vec<u8>) -> Result<(), u32> {
     let (servers, drives, slots) = (servers.into(), drives.into(), slots.into());
     let mut cells = [0; MOST_CELLS];
     let room = &mut cells[..room_length(servers, drives, slots) as usize];
-    open(room, servers, drives, slots)?;
+    open(room, servers, drives, slots, &USUAL_LIMITS)?;
     put_steps(out, room, records);
     for server in 0..servers {
         put_server(out, room, server)?;

@@ -1,20 +1,22 @@
 //! The room: its sizes, where its parts stand, the range of its cells, open.
 
 use crate::ballots::is_ballot_or_none;
-use crate::commands::is_command_or_none;
+use crate::commands::{is_command, limits_fit, Commands, Limits, CABINETS};
 use crate::refusal;
 
-/// The cells before the first slot: N, D, S and the off marks.
-const HEAD: usize = 4;
+/// The cells before the first slot: N, D, S, the off marks and the limits.
+const HEAD: usize = LIMITS + CABINETS;
 /// The cells of a server record.
 pub(crate) const RECORD: usize = 11;
 /// The cells of a block.
 pub(crate) const BLOCK: usize = 4;
 /// The cell of the off marks.
 pub(crate) const OFF: usize = 3;
+/// The first cell of the limits of the cabinets.
+const LIMITS: usize = 4;
 
 /// The length of the largest room, 4 servers, 7 drives and 16 slots.
-pub const MOST_CELLS: usize = 2500;
+pub const MOST_CELLS: usize = 2508;
 
 /// The sizes of a room. They fit where they come from [`Sizes::fit`].
 #[derive(Clone, Copy, Debug, PartialEq, Eq)]
@@ -77,21 +79,43 @@ pub fn room_length(servers: u32, drives: u32, slots: u32) -> u32 {
     Sizes::fit(servers, drives, slots).map_or(0, |sizes| sizes.length() as u32)
 }
 
-/// Makes `row` a new room: the three sizes, then zeros.
-pub fn open(row: &mut [u32], servers: u32, drives: u32, slots: u32) -> Result<(), u32> {
+/// Makes `row` a new room with these limits of its cabinets: the three sizes, no
+/// off mark, the limits, then zeros. There must be eight limits.
+pub fn open(
+    row: &mut [u32],
+    servers: u32,
+    drives: u32,
+    slots: u32,
+    limits: &[u32],
+) -> Result<(), u32> {
     let sizes = Sizes::fit(servers, drives, slots).ok_or(refusal::SIZES)?;
+    let limits: &Limits = limits.try_into().map_err(|_| refusal::LENGTH)?;
     if row.len() != sizes.length() {
         return Err(refusal::LENGTH);
     }
+    if !limits_fit(limits) {
+        return Err(refusal::LIMITS);
+    }
     row.fill(0);
     row[..3].copy_from_slice(&[servers, drives, slots]);
+    row[LIMITS..HEAD].copy_from_slice(limits);
     Ok(())
+}
+
+/// The limits that stand in a row, in range or not; none where it is too short.
+pub fn limits_of(row: &[u32]) -> Option<&Limits> {
+    row.get(LIMITS..)?.first_chunk()
+}
+
+/// Whether `value` is a command by the limits of a room.
+pub(crate) fn has_command(room: &[u32], value: u32) -> bool {
+    limits_of(room).is_some_and(|limits| is_command(value, limits))
 }
 
 /// Judges every cell. The sizes of the room, none where `row` is no room or a
 /// cell is out of range.
 pub fn judge(row: &[u32]) -> Option<Sizes> {
-    let &[servers, drives, slots, off, ref cells @ ..] = row else {
+    let &[servers, drives, slots, off, ..] = row else {
         return None;
     };
     let sizes = Sizes::fit(servers, drives, slots)?;
@@ -99,14 +123,23 @@ pub fn judge(row: &[u32]) -> Option<Sizes> {
     if row.len() != sizes.length() || off & !drive_marks != 0 {
         return None;
     }
-    let in_range = cells.chunks_exact(sizes.slot_length()).all(|slot| {
+    let commands = Commands::by(limits_of(row)?)?;
+    for slot in row[HEAD..].chunks_exact(sizes.slot_length()) {
         let (records, blocks) = slot.split_at(RECORD * sizes.servers);
         let (records, _) = records.as_chunks();
         let (blocks, _) = blocks.as_chunks();
-        records.iter().all(|record| record_in_range(record, drive_marks, read_marks))
-            && blocks.iter().all(block_in_range)
-    });
-    in_range.then_some(sizes)
+        for record in records {
+            if !record_in_range(record, drive_marks, read_marks, &commands) {
+                return None;
+            }
+        }
+        for block in blocks {
+            if !block_in_range(block, &commands) {
+                return None;
+            }
+        }
+    }
+    Some(sizes)
 }
 
 // Below, numbers joined by `&` are compared without a branch for each, and `&&`
@@ -114,7 +147,12 @@ pub fn judge(row: &[u32]) -> Option<Sizes> {
 
 /// Whether the eleven cells of a server record are in range.
 #[inline]
-fn record_in_range(cells: &[u32; RECORD], drive_marks: u32, read_marks: u32) -> bool {
+fn record_in_range(
+    cells: &[u32; RECORD],
+    drive_marks: u32,
+    read_marks: u32,
+    commands: &Commands,
+) -> bool {
     let &[phase, mbal, bal, inp, offer, top, seenbal, seeninp, written, read, agreed] = cells;
     (phase <= 3)
         & is_ballot_or_none(mbal)
@@ -123,16 +161,17 @@ fn record_in_range(cells: &[u32; RECORD], drive_marks: u32, read_marks: u32) -> 
         & is_ballot_or_none(seenbal)
         & (written & !drive_marks == 0)
         & (read & !read_marks == 0)
-        && is_command_or_none(inp)
-        && is_command_or_none(offer)
-        && is_command_or_none(seeninp)
-        && is_command_or_none(agreed)
+        && commands.has_or_none(inp)
+        && commands.has_or_none(offer)
+        && commands.has_or_none(seeninp)
+        && commands.has_or_none(agreed)
 }
 
 /// Whether mbal, bal, inp and done are in range. Most blocks hold no command, or the
 /// same one twice, and then one look is spared.
 #[inline]
-fn block_in_range(&[mbal, bal, inp, done]: &[u32; BLOCK]) -> bool {
+fn block_in_range(&[mbal, bal, inp, done]: &[u32; BLOCK], commands: &Commands) -> bool {
     is_ballot_or_none(mbal) & is_ballot_or_none(bal)
-        && (inp | done == 0 || is_command_or_none(inp) && (done == inp || is_command_or_none(done)))
+        && (inp | done == 0
+            || commands.has_or_none(inp) && (done == inp || commands.has_or_none(done)))
 }

@@ -1,9 +1,8 @@
 //! The ten steps. Each rule has its checks first and its effect after.
 
 use crate::ballots::{least_own_above, owner};
-use crate::commands::is_command;
 use crate::refusal;
-use crate::room::{judge, Sizes, OFF};
+use crate::room::{has_command, judge, Sizes, OFF};
 use crate::server::{is_majority, Block, Server};
 
 /// A step. A number is a command in Offer, a ballot in Rejoin and Bid.
@@ -92,7 +91,7 @@ struct View<'a> {
 impl View<'_> {
     fn offer(&mut self, server: u8, slot: u8, command: u32) -> Outcome {
         let place = self.place(server, slot)?;
-        check(is_command(command), refusal::NOT_A_COMMAND)?;
+        check(has_command(self.room, command), refusal::NOT_A_COMMAND)?;
         let own = self.load(place);
         self.store(place, own.offering(command));
         Ok(Answer::Done)

@@ -1,7 +1,7 @@
 //! Ask and Put: which slots are free for a server, and the refusals in their
 //! order.
 
-use other::{ask, open, put, room_length, step, Answer, Step};
+use other::{ask, open, put, room_length, step, Answer, Step, USUAL_LIMITS};
 
 /// Piece 5 enters hoard 9, and hoard 8.
 const COIN: u32 = 66_825;
@@ -20,13 +20,13 @@ const BEYOND: [u32; 8] = [3, 4, 16, 255, 256, 65_537, 1 << 31, u32::MAX];
 /// A new room of 2 servers, 1 drive and 3 slots.
 fn opened() -> Vec<u32> {
     let mut room = vec![7; room_length(2, 1, 3) as usize];
-    assert_eq!(open(&mut room, 2, 1, 3), Ok(()));
+    assert_eq!(open(&mut room, 2, 1, 3, &USUAL_LIMITS), Ok(()));
     room
 }
 
 /// The first cell of server 0's record in a slot.
 fn server_0(slot: usize) -> usize {
-    4 + slot * 2 * (11 + 4)
+    12 + slot * 2 * (11 + 4)
 }
 
 /// A Put of server 0 that is refused with `number` and changes nothing.

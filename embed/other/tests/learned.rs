@@ -1,7 +1,9 @@
 //! What is settled is told by the cell done and learned by a Read: the examples of
 //! 02, and each rule in rooms that no run reaches.
 
-use other::{ask, catalogue, judge, open, room_length, step, Answer, Block, Server, Step};
+use other::{
+    ask, catalogue, judge, open, room_length, step, Answer, Block, Server, Step, USUAL_LIMITS,
+};
 
 /// Piece 5 enters hoard 9, and hoard 8; piece 6 enters hoard 9.
 const COIN: u32 = 66_825;
@@ -10,12 +12,12 @@ const THIRD_COIN: u32 = 67_081;
 
 /// The first cell of server 0's record, and of server 1's block on drive 0, in a
 /// room of 2 servers, 3 drives and 1 slot.
-const SERVER_0: usize = 4;
-const BLOCK_1: usize = 4 + 2 * 11 + 4;
+const SERVER_0: usize = 12;
+const BLOCK_1: usize = 12 + 2 * 11 + 4;
 
 fn opened() -> Vec<u32> {
     let mut room = vec![7; room_length(2, 3, 1) as usize];
-    assert_eq!(open(&mut room, 2, 3, 1), Ok(()));
+    assert_eq!(open(&mut room, 2, 3, 1, &USUAL_LIMITS), Ok(()));
     room
 }
 

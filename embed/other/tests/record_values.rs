@@ -67,6 +67,28 @@ fn inputs_end_between_records_or_in_one() {
     }
 }
 
+/// The last piece of each cabinet enters its largest hoard, and the one above it.
+#[test]
+fn rehearse_opens_with_the_limits_of_01() {
+    let mut input = hex("01 01 01");
+    let mut lines = String::new();
+    let mut index = 0;
+    let limits =
+        [(7, 255), (15, 255), (23, 200), (31, 200), (39, 120), (47, 120), (55, 60), (63, 60)];
+    for (piece, limit) in limits {
+        for (hoard, line) in [(limit, "done 0"), (limit + 1, "refused 5")] {
+            let number: u32 = 65_536 + 256 * piece + hoard;
+            let mut bytes = [0; 8];
+            let offer = Step::Offer { server: 0, slot: 0, number };
+            let length = write_record(offer, &mut bytes).expect("eight bytes are enough");
+            input.extend(&bytes[..length]);
+            lines += &format!("{index} {line}\n");
+            index += 1;
+        }
+    }
+    assert_eq!(printed(&input), lines + "server 0 taken 0 skipped 0\n");
+}
+
 #[test]
 fn odd_records_are_refused_in_order() {
     let cases = [

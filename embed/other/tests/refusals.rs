@@ -1,7 +1,7 @@
 //! Where several refusals apply to a step, the lowest is given. Each list
 //! below mends the reason of one refusal, and the next higher one appears.
 
-use other::{open, room_length, step, Answer, Step};
+use other::{open, room_length, step, Answer, Step, USUAL_LIMITS};
 
 /// The cells of a server record.
 const PHASE: usize = 0;
@@ -17,12 +17,12 @@ const DONE: usize = 3;
 
 /// The first cells of server 0's record and of server 1's block on drive 0, in
 /// a room of 2 servers, 3 drives and 2 slots, slot 0.
-const SERVER_0: usize = 4;
-const BLOCK_1: usize = 4 + 2 * 11 + 4;
+const SERVER_0: usize = 12;
+const BLOCK_1: usize = 12 + 2 * 11 + 4;
 
 fn opened() -> Vec<u32> {
     let mut room = vec![0; room_length(2, 3, 2) as usize];
-    assert_eq!(open(&mut room, 2, 3, 2), Ok(()));
+    assert_eq!(open(&mut room, 2, 3, 2, &USUAL_LIMITS), Ok(()));
     room
 }
 

@@ -2,13 +2,13 @@
 
 use other::{
     catalogue, is_command, is_majority, least_own_above, open, owner, room_length, step, Answer,
-    Server, Sizes, Step, STRUCK,
+    Server, Sizes, Step, STRUCK, USUAL_LIMITS,
 };
 
-/// A new room.
+/// A new room with the limits of 01.
 fn opened(servers: u32, drives: u32, slots: u32) -> Vec<u32> {
     let mut room = vec![7; room_length(servers, drives, slots) as usize];
-    assert_eq!(open(&mut room, servers, drives, slots), Ok(()));
+    assert_eq!(open(&mut room, servers, drives, slots, &USUAL_LIMITS), Ok(()));
     room
 }
 
@@ -40,7 +40,7 @@ fn put_block(room: &mut [u32], drive: usize, server: usize, block: [u32; 3]) {
 /// Puts commands into the slots of a room of one server and one drive, as its outputs.
 fn put_outputs(room: &mut [u32], commands: &[u32]) {
     for (slot, &command) in commands.iter().enumerate() {
-        let at = 4 + 15 * slot;
+        let at = 12 + 15 * slot;
         room[at] = 3;
         room[at + 10] = command;
     }
@@ -48,17 +48,17 @@ fn put_outputs(room: &mut [u32], commands: &[u32]) {
 
 #[test]
 fn the_room_has_its_length() {
-    assert_eq!(room_length(1, 1, 1), 19);
-    assert_eq!(room_length(4, 7, 16), 2_500);
+    assert_eq!(room_length(1, 1, 1), 27);
+    assert_eq!(room_length(4, 7, 16), 2_508);
     let sizes = Sizes::fit(2, 3, 2).expect("sizes that fit");
-    assert_eq!(sizes.server_at(0, 1), 15);
-    assert_eq!(sizes.block_at(0, 0, 0), 26);
-    assert_eq!(sizes.block_at(0, 1, 1), 38);
-    assert_eq!(sizes.server_at(1, 0), 50);
+    assert_eq!(sizes.server_at(0, 1), 23);
+    assert_eq!(sizes.block_at(0, 0, 0), 34);
+    assert_eq!(sizes.block_at(0, 1, 1), 46);
+    assert_eq!(sizes.server_at(1, 0), 58);
     let mut room = opened(2, 3, 2);
-    assert_eq!(room.len(), 4 + 2 * (11 * 2 + 4 * 3 * 2));
-    assert_eq!(room[..4], [2, 3, 2, 0]);
-    assert!(room[4..].iter().all(|&cell| cell == 0));
+    assert_eq!(room.len(), 12 + 2 * (11 * 2 + 4 * 3 * 2));
+    assert_eq!(room[..12], [2, 3, 2, 0, 255, 255, 200, 200, 120, 120, 60, 60]);
+    assert!(room[12..].iter().all(|&cell| cell == 0));
     room[3] = 8;
     refuse(&mut room, Step::Fail { server: 0 }, 3);
 }
@@ -67,23 +67,23 @@ fn the_room_has_its_length() {
 fn open_refuses_sizes_before_length() {
     let bad = [(0, 1, 1), (5, 1, 1), (1, 0, 1), (1, 8, 1), (1, 1, 0), (1, 1, 17)];
     for (servers, drives, slots) in bad.into_iter().chain([(u32::MAX, u32::MAX, u32::MAX)]) {
-        for length in [0, 3, 19, 2_500] {
+        for length in [0, 3, 27, 2_508] {
             let mut row = vec![9; length];
-            assert_eq!(open(&mut row, servers, drives, slots), Err(1));
+            assert_eq!(open(&mut row, servers, drives, slots, &USUAL_LIMITS), Err(1));
             assert!(row.iter().all(|&cell| cell == 9));
         }
         assert_eq!(room_length(servers, drives, slots), 0);
     }
-    for length in [0, 3, 17, 18, 20, 2_500] {
+    for length in [0, 3, 17, 19, 26, 28, 2_508] {
         let mut row = vec![9; length];
-        assert_eq!(open(&mut row, 1, 1, 1), Err(2));
+        assert_eq!(open(&mut row, 1, 1, 1, &USUAL_LIMITS), Err(2));
         assert!(row.iter().all(|&cell| cell == 9));
     }
 }
 
 #[test]
 fn commands_end_at_their_limits() {
-    assert!(is_command(81_724) && is_command(196_608));
+    assert!(is_command(81_724, &USUAL_LIMITS) && is_command(196_608, &USUAL_LIMITS));
     let mut room = opened(1, 1, 1);
     take(&mut room, &[Step::Offer { server: 0, slot: 0, number: 81_724 }]);
     refuse(&mut room, Step::Offer { server: 0, slot: 0, number: 81_725 }, 5);
@@ -99,7 +99,7 @@ fn commands_end_at_their_limits() {
             3 => piece <= 63 && hoard == 0,
             _ => false,
         };
-        assert_eq!(is_command(value), legal, "{value}");
+        assert_eq!(is_command(value, &limits), legal, "{value}");
     }
 }
 
@@ -257,7 +257,7 @@ fn catalogue_skips_what_does_not_apply() {
     assert_eq!(catalogue(&room[1..], 1, &mut out[1..]), Err(2));
     assert_eq!(out[0], STRUCK);
     // A slot in phase 2 ends the outputs.
-    room[4 + 15 * 3] = 2;
+    room[12 + 15 * 3] = 2;
     assert_eq!(catalogue(&room, 0, &mut out), Ok((3, 2)));
     assert_eq!(out[0], 9);
 }

@@ -1,13 +1,17 @@
-//! Where a server's record and a block stand in a room, and what they hold.
+//! Where a server's record and a block stand in a room, and what they and the limits
+//! hold.
 
 use crate::raw;
-use crate::Room;
+use crate::{Limits, Room};
+
+/// The first cell of the limits, after the sizes and the off marks.
+const LIMITS: usize = 4;
 
 /// The first cell of a server's record in a slot, none where the sizes do not fit
 /// or the place is beyond the room.
 ///
 /// ```
-/// assert_eq!(register::server_at(2, 3, 4, 1, 0), Some(15));
+/// assert_eq!(register::server_at(2, 3, 4, 1, 0), Some(23));
 /// assert_eq!(register::server_at(2, 3, 4, 2, 0), None);
 /// ```
 #[must_use]
@@ -19,7 +23,7 @@ pub fn server_at(servers: u32, drives: u32, slots: u32, server: u32, slot: u32) 
 /// do not fit or the place is beyond the room.
 ///
 /// ```
-/// assert_eq!(register::block_at(2, 3, 4, 1, 0, 2), Some(46));
+/// assert_eq!(register::block_at(2, 3, 4, 1, 0, 2), Some(54));
 /// assert_eq!(register::block_at(2, 3, 4, 1, 0, 3), None);
 /// ```
 #[must_use]
@@ -92,6 +96,21 @@ pub struct Block {
 }
 
 impl<R: AsRef<[u32]>> Room<R> {
+    /// The limits of the room's cabinets, as the cells have them; none where the row is
+    /// too short. The cells are not judged.
+    ///
+    /// ```
+    /// use register::{Limits, Room};
+    ///
+    /// assert_eq!(Room::open(2, 3, 4)?.limits(), Some(Limits::default()));
+    /// assert_eq!(Room::over([0; 11]).limits(), None);
+    /// # Ok::<(), register::Error>(())
+    /// ```
+    #[must_use]
+    pub fn limits(&self) -> Option<Limits> {
+        self.cells().get(LIMITS..)?.first_chunk().copied().map(Limits::of)
+    }
+
     /// What a server knows in a slot, as the cells have it; none where there is no
     /// such server or slot. The cells are not judged.
     ///

@@ -2,7 +2,10 @@
 
 use std::fmt;
 
-use crate::{Error, Room, Step};
+use crate::{Error, Limits, Room, Step, CABINETS};
+
+/// The limits of a room in which every cabinet has every hoard.
+const LARGEST: Limits = Limits::of([255; CABINETS]);
 
 /// What a command asks for a piece.
 #[derive(Clone, Copy, Debug, PartialEq, Eq, Hash)]
@@ -15,20 +18,28 @@ pub enum Kind {
     Strike,
 }
 
-/// A number that is a command: kind * 65,536 + piece * 256 + hoard.
+/// A number that is a command where the cabinet is large enough: kind * 65,536 +
+/// piece * 256 + hoard.
 ///
 /// Whether a number is one is the library's to say: it is offered in a room of
-/// its own.
+/// its own, in which every cabinet has all hoards up to 255. Whether the piece's
+/// cabinet has such a hoard is judged by the room in which the command is offered.
 ///
 /// ```
-/// use register::{Command, Error, Kind};
+/// use register::{Command, Error, Kind, Limits, Room};
 ///
 /// let enter = Command::enter(5, 9)?;
 /// assert_eq!(enter.number(), 66_825);
 /// assert_eq!((enter.kind(), enter.piece(), enter.hoard()), (Kind::Enter, 5, Some(9)));
 /// assert_eq!(Command::strike(5)?.hoard(), None);
 /// assert_eq!(Command::enter(64, 1), Err(Error::NotACommand));
-/// assert_eq!(Command::enter(63, 61), Err(Error::NotACommand));
+/// assert_eq!(Command::enter(63, 0), Err(Error::NotACommand));
+///
+/// // One command in two rooms: the last cabinet has 60 hoards, or 61.
+/// let large = Limits::of([255, 255, 200, 200, 120, 120, 60, 61]);
+/// let enter = Command::enter(63, 61)?.number();
+/// assert_eq!(Room::open(1, 1, 1)?.put(0, 0, enter), Err(Error::NotACommand));
+/// assert_eq!(Room::open_with(1, 1, 1, large)?.put(0, 0, enter), Ok(()));
 /// # Ok::<(), Error>(())
 /// ```
 #[derive(Clone, Copy, Debug, PartialEq, Eq, PartialOrd, Ord, Hash)]
@@ -39,8 +50,7 @@ impl Command {
     ///
     /// # Errors
     ///
-    /// [`Error::NotACommand`] where the piece is above 63, or the hoard is 0 or
-    /// above the limit of the piece's cabinet.
+    /// [`Error::NotACommand`] where the piece is above 63 or the hoard is 0.
     pub fn enter(piece: u8, hoard: u8) -> Result<Command, Error> {
         Command::of(number(1, piece, hoard))
     }
@@ -49,8 +59,7 @@ impl Command {
     ///
     /// # Errors
     ///
-    /// [`Error::NotACommand`] where the piece is above 63, or the hoard is 0 or
-    /// above the limit of the piece's cabinet.
+    /// [`Error::NotACommand`] where the piece is above 63 or the hoard is 0.
     pub fn move_to(piece: u8, hoard: u8) -> Result<Command, Error> {
         Command::of(number(2, piece, hoard))
     }
@@ -78,7 +87,7 @@ impl Command {
     ///
     /// [`Error::NotACommand`] where it is none.
     pub fn of(number: u32) -> Result<Command, Error> {
-        let mut room = Room::open(1, 1, 1)?;
+        let mut room = Room::open_with(1, 1, 1, LARGEST)?;
         room.step(Step::Offer { server: 0, slot: 0, command: number })?;
         Ok(Command(number))
     }

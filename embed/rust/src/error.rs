@@ -23,7 +23,7 @@ pub enum Error {
     Cells,
     /// 4: a server, slot or drive beyond the room, or the server itself as the other.
     Beyond,
-    /// 5: a number that is not a command.
+    /// 5: a number that is not a command. It may be one in a room with other limits.
     NotACommand,
     /// 6: a number that is not a ballot of the server.
     NotItsBallot,
@@ -51,12 +51,14 @@ pub enum Error {
     NotFree,
     /// 17: no slot is free for the server.
     NoFreeSlot,
+    /// 18: the limit of a cabinet is not 1 to 255.
+    Limits,
     /// A number that the register does not give.
     Unknown(u32),
 }
 
 /// Each refusal with its number and its text.
-const TEXTS: [(Error, &str); 17] = [
+const TEXTS: [(Error, &str); 18] = [
     (Error::Sizes, "the sizes fit no room: 1 to 4 servers, 1 to 7 drives, 1 to 16 slots"),
     (Error::Length, "the length of the lent cells or bytes is wrong"),
     (Error::Cells, "the lent row is no room, or a cell of it is out of range"),
@@ -64,7 +66,7 @@ const TEXTS: [(Error, &str); 17] = [
         Error::Beyond,
         "a server, slot or drive is beyond the room, or the other server is the server itself",
     ),
-    (Error::NotACommand, "the number is not a command"),
+    (Error::NotACommand, "the number is not a command, or the cabinet has no such hoard"),
     (Error::NotItsBallot, "the ballot is 0, above 1,000,000 or another server's"),
     (Error::WrongPhase, "the server is in a phase that does not allow this step"),
     (Error::DriveOff, "the drive is off"),
@@ -80,6 +82,7 @@ const TEXTS: [(Error, &str); 17] = [
     (Error::Malformed, "the record is malformed"),
     (Error::NotFree, "the slot is not free: the server offers a command there or has settled it"),
     (Error::NoFreeSlot, "no slot is free for the server"),
+    (Error::Limits, "the limit of a cabinet is not 1 to 255"),
 ];
 
 impl Error {

@@ -29,6 +29,22 @@
 //! # }
 //! ```
 //!
+//! A museum whose cabinets are not the usual ones opens its rooms with [`Limits`] of its
+//! own. The same command can then be accepted in one room and refused in another.
+//!
+//! ```
+//! use register::{Command, Error, Limits, Room};
+//!
+//! # fn main() -> Result<(), register::Error> {
+//! let enter = Command::enter(63, 61)?.number();
+//! let mut usual = Room::open(1, 1, 1)?;
+//! let mut large = Room::open_with(1, 1, 1, Limits::of([90; 8]))?;
+//! assert_eq!(usual.put(0, 0, enter), Err(Error::NotACommand));
+//! assert_eq!(large.put(0, 0, enter), Ok(()));
+//! # Ok(())
+//! # }
+//! ```
+//!
 //! A server that has settled a slot can tell it: it writes its block once more.
 //! Another that comes late learns the command where it reads that block, and need not
 //! finish a phase.
@@ -62,6 +78,8 @@ mod catalogue;
 mod cells;
 mod command;
 mod error;
+mod limits;
+mod opening;
 mod raw;
 mod record;
 mod room;
@@ -71,6 +89,8 @@ pub use catalogue::{Catalogue, Entry, PIECES, STRUCK};
 pub use cells::{block_at, server_at, Block, Own, Server};
 pub use command::{Command, Kind};
 pub use error::Error;
+pub use limits::{Limits, CABINETS};
+pub use opening::NotOpened;
 pub use record::{Record, LONGEST_RECORD};
-pub use room::{room_length, NotOpened, Room};
+pub use room::{room_length, Room};
 pub use step::{Answer, Step};

@@ -1,7 +1,7 @@
 //! The functions of the library, each with the safe function that calls it. A
 //! slice is a pointer and then a length.
 
-use crate::Error;
+use crate::{Error, Limits};
 
 mod library {
     extern "C" {
@@ -12,6 +12,8 @@ mod library {
             servers: u32,
             drives: u32,
             slots: u32,
+            limits: *const u32,
+            count: usize,
         ) -> u32;
         pub fn register_step(room: *mut u32, cells: usize, bytes: *const u8, length: usize) -> u64;
         pub fn register_ask(room: *const u32, cells: usize, server: u32) -> u64;
@@ -89,10 +91,26 @@ pub(crate) fn length(servers: u32, drives: u32, slots: u32) -> u32 {
     unsafe { library::register_length(servers, drives, slots) }
 }
 
-pub(crate) fn open(row: &mut [u32], servers: u32, drives: u32, slots: u32) -> Result<(), Error> {
-    // SAFETY: the pointer and the length are those of a slice.
-    let number =
-        unsafe { library::register_open(row.as_mut_ptr(), row.len(), servers, drives, slots) };
+pub(crate) fn open(
+    row: &mut [u32],
+    servers: u32,
+    drives: u32,
+    slots: u32,
+    limits: Limits,
+) -> Result<(), Error> {
+    let limits = limits.numbers();
+    // SAFETY: the pointers and the lengths are those of a slice and an array.
+    let number = unsafe {
+        library::register_open(
+            row.as_mut_ptr(),
+            row.len(),
+            servers,
+            drives,
+            slots,
+            limits.as_ptr(),
+            limits.len(),
+        )
+    };
     match number {
         0 => Ok(()),
         number => Err(Error::of(number)),

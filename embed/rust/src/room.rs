@@ -1,14 +1,12 @@
 //! The room and its calls.
 
-use std::fmt;
-
 use crate::raw;
 use crate::{Answer, Catalogue, Error, Record, Step, PIECES};
 
 /// The number of cells of a room, none where the sizes do not fit.
 ///
 /// ```
-/// assert_eq!(register::room_length(4, 7, 16), Some(2500));
+/// assert_eq!(register::room_length(4, 7, 16), Some(2508));
 /// assert_eq!(register::room_length(5, 7, 16), None);
 /// ```
 #[must_use]
@@ -28,12 +26,12 @@ pub fn room_length(servers: u32, drives: u32, slots: u32) -> Option<usize> {
 /// ```
 /// use register::{Error, Room, Step};
 ///
-/// let mut cells = [0; 19];
+/// let mut cells = [0; 27];
 /// let mut room = Room::open_in(&mut cells[..], 1, 1, 1)?;
 /// room.step(Step::Offer { server: 0, slot: 0, command: 66_825 })?;
-/// assert_eq!(cells[8], 66_825);
+/// assert_eq!(cells[16], 66_825);
 ///
-/// cells[8] = 1;
+/// cells[16] = 1;
 /// let mut room = Room::over(&mut cells[..]);
 /// assert_eq!(room.step(Step::Fail { server: 0 }), Err(Error::Cells));
 /// # Ok::<(), Error>(())
@@ -41,56 +39,6 @@ pub fn room_length(servers: u32, drives: u32, slots: u32) -> Option<usize> {
 #[derive(Clone, Debug, PartialEq, Eq)]
 pub struct Room<R = Vec<u32>> {
     row: R,
-}
-
-/// A row that was not opened, handed back with the reason.
-///
-/// ```
-/// use register::{Error, Room};
-///
-/// let row = vec![7; 20];
-/// let not_opened = Room::open_in(row, 1, 1, 1).unwrap_err();
-/// assert_eq!(not_opened.error, Error::Length);
-/// assert_eq!(not_opened.row, [7; 20]);
-/// ```
-#[derive(Clone, Copy, Debug, PartialEq, Eq)]
-pub struct NotOpened<R> {
-    /// Why it was not opened.
-    pub error: Error,
-    /// The row, as it was.
-    pub row: R,
-}
-
-impl<R> From<NotOpened<R>> for Error {
-    fn from(not_opened: NotOpened<R>) -> Error {
-        not_opened.error
-    }
-}
-
-impl<R> fmt::Display for NotOpened<R> {
-    fn fmt(&self, f: &mut fmt::Formatter<'_>) -> fmt::Result {
-        write!(f, "the row was not opened: {}", self.error)
-    }
-}
-
-impl<R: fmt::Debug> std::error::Error for NotOpened<R> {}
-
-impl Room<Vec<u32>> {
-    /// A new room that owns its cells.
-    ///
-    /// ```
-    /// let room = register::Room::open(2, 3, 4)?;
-    /// assert_eq!(room.cells().len(), 188);
-    /// # Ok::<(), register::Error>(())
-    /// ```
-    ///
-    /// # Errors
-    ///
-    /// [`Error::Sizes`] where the sizes do not fit.
-    pub fn open(servers: u32, drives: u32, slots: u32) -> Result<Self, Error> {
-        let cells = room_length(servers, drives, slots).ok_or(Error::Sizes)?;
-        Ok(Room::open_in(vec![0; cells], servers, drives, slots)?)
-    }
 }
 
 impl<R> Room<R> {
@@ -108,25 +56,6 @@ impl<R> Room<R> {
 }
 
 impl<R: AsMut<[u32]>> Room<R> {
-    /// Makes a row a new room. What the cells held is not heeded.
-    ///
-    /// # Errors
-    ///
-    /// [`NotOpened`], which hands the row back as it was: with [`Error::Sizes`]
-    /// where the sizes do not fit, with [`Error::Length`] where the row is not as
-    /// long as [`room_length`] says.
-    pub fn open_in(
-        mut row: R,
-        servers: u32,
-        drives: u32,
-        slots: u32,
-    ) -> Result<Self, NotOpened<R>> {
-        match raw::open(row.as_mut(), servers, drives, slots) {
-            Ok(()) => Ok(Room { row }),
-            Err(error) => Err(NotOpened { error, row }),
-        }
-    }
-
     /// Takes one step.
     ///
     /// ```
@@ -143,7 +72,8 @@ impl<R: AsMut<[u32]>> Room<R> {
     ///
     /// [`Error::Cells`] where the row is no room; then, by the step, the errors
     /// from [`Error::Beyond`] to [`Error::NoBallotLeft`]: of those that apply the
-    /// one with the lowest number.
+    /// one with the lowest number. Whether a number is a command, in the step and in
+    /// the cells, is judged by the room's own limits.
     pub fn step(&mut self, step: Step) -> Result<Answer, Error> {
         self.step_record(Record::of(step).bytes())
     }

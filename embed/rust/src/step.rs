@@ -12,7 +12,8 @@ pub enum Step {
         server: u8,
         /// The slot.
         slot: u8,
-        /// The number of a [`Command`](crate::Command); the step is refused where it is none.
+        /// The number of a [`Command`](crate::Command); the step is refused where it is none
+        /// by the room's limits.
         command: u32,
     },
     /// After a failure the server reads its own block on the drive.

@@ -2,7 +2,7 @@
 
 use std::collections::BTreeSet;
 
-use register::{Answer, Error, Room, Step};
+use register::{Answer, Error, Limits, Room, Step};
 
 /// Piece 5 enters hoard 9.
 const COIN: u32 = 66_825;
@@ -62,8 +62,8 @@ fn each_is_met() {
     assert_eq!(full.put(0, 0, COIN), Ok(()));
     let met = [
         Room::open(1, 8, 1).expect_err("eight drives are too many"),
-        Room::open_in(vec![0; 20], 1, 1, 1).expect_err("a room of one has 19 cells").error,
-        refusal(Room::over(vec![9; 19]), Step::Fail { server }),
+        Room::open_in(vec![0; 28], 1, 1, 1).expect_err("a room of one has 27 cells").error,
+        refusal(Room::over(vec![9; 27]), Step::Fail { server }),
         refusal(bidding(1), Step::Read { server, slot, drive, other: server }),
         refusal(bidding(1), Step::Offer { server, slot, command: 81_725 }),
         refusal(bidding(1), Step::Bid { server, slot, ballot: 2 }),
@@ -78,6 +78,7 @@ fn each_is_met() {
         bidding(1).step_record(&[0x20, 0x07]).expect_err("bit 5 stands"),
         put_refusal(&mut full, 0, 0, COIN),
         full.ask(0).expect_err("the one slot has an offer"),
+        Room::open_with(1, 1, 1, Limits::of([0; 8])).expect_err("no cabinet has a hoard"),
     ];
     for (place, error) in met.into_iter().enumerate() {
         assert_eq!(error.number(), place as u32 + 1, "{error}");
@@ -87,9 +88,9 @@ fn each_is_met() {
 
 #[test]
 fn each_has_a_text_of_its_own() {
-    let texts: BTreeSet<String> = (1..=17).map(|number| Error::of(number).to_string()).collect();
-    assert_eq!(texts.len(), 17);
-    for number in 1..=17 {
+    let texts: BTreeSet<String> = (1..=18).map(|number| Error::of(number).to_string()).collect();
+    assert_eq!(texts.len(), 18);
+    for number in 1..=18 {
         assert!(Error::of(number).to_string().ends_with(&format!(" (refusal {number})")));
     }
     assert_eq!(Error::of(0), Error::Unknown(0));
@@ -99,7 +100,7 @@ fn each_has_a_text_of_its_own() {
 #[test]
 fn ask_and_put_in_order() {
     let far = [2, 3, 255, 256, 1 << 31, u32::MAX];
-    let mut row = Room::over(vec![9; 19]);
+    let mut row = Room::over(vec![9; 27]);
     let mut full = bidding(1);
     assert_eq!(full.put(0, 0, COIN), Ok(()));
     for server in far {

@@ -1,7 +1,7 @@
 //! Rows that no run makes.
 
-use other::generator::Chance;
-use other::{Sizes, BALLOT_LIMIT};
+use other::generator::{any_limits, Chance};
+use other::{Limits, Sizes, BALLOT_LIMIT};
 
 /// What a cell of a room may hold.
 #[derive(Clone, Copy)]
@@ -30,16 +30,19 @@ const RECORD: [Cell; 11] = [
 ];
 const BLOCK: [Cell; 4] = [Cell::Ballot, Cell::Ballot, Cell::Value, Cell::Done];
 
-/// A room with any cells that are in range, most of which no run reaches.
+/// A room with any limits and any cells that are in range, most of which no run
+/// reaches.
 pub fn in_range(chance: &mut Chance, sizes: Sizes) -> Vec<u32> {
+    let limits = any_limits(chance);
     let mut room = vec![sizes.servers as u32, sizes.drives as u32, sizes.slots as u32];
-    room.push(cell(chance, sizes, Cell::Drives));
+    room.push(cell(chance, sizes, &limits, Cell::Drives));
+    room.extend(limits);
     for _ in 0..sizes.slots {
         for _ in 0..sizes.servers {
-            room.extend(RECORD.map(|kind| cell(chance, sizes, kind)));
+            room.extend(RECORD.map(|kind| cell(chance, sizes, &limits, kind)));
         }
         for _ in 0..sizes.servers * sizes.drives {
-            room.extend(BLOCK.map(|kind| cell(chance, sizes, kind)));
+            room.extend(BLOCK.map(|kind| cell(chance, sizes, &limits, kind)));
         }
     }
     room
@@ -66,7 +69,7 @@ pub fn any_number(chance: &mut Chance) -> u32 {
 }
 
 /// Numbers at the edges of what the cells may hold.
-pub const EDGES: [u32; 24] = [
+pub const EDGES: [u32; 26] = [
     0,
     1,
     2,
@@ -76,6 +79,8 @@ pub const EDGES: [u32; 24] = [
     0x7f,
     0x80,
     0xff,
+    0x100,
+    0x101,
     65_535,
     65_536,
     65_537,
@@ -94,14 +99,14 @@ pub const EDGES: [u32; 24] = [
 ];
 
 /// A number that the cell may hold.
-fn cell(chance: &mut Chance, sizes: Sizes, kind: Cell) -> u32 {
+fn cell(chance: &mut Chance, sizes: Sizes, limits: &Limits, kind: Cell) -> u32 {
     match kind {
         Cell::Phase => chance.below(4),
         Cell::Ballot => ballot(chance),
-        Cell::Value => value(chance),
+        Cell::Value => value(chance, limits),
         // More often 0, for a Read looks at the ballots only then.
         Cell::Done if chance.one_in(2) => 0,
-        Cell::Done => value(chance),
+        Cell::Done => value(chance, limits),
         Cell::Drives => marks(chance, |bit| bit < sizes.drives),
         Cell::Reads => marks(chance, |bit| bit / 4 < sizes.drives && bit % 4 < sizes.servers),
     }
@@ -117,14 +122,15 @@ fn ballot(chance: &mut Chance) -> u32 {
     }
 }
 
-/// 0, or a command.
-fn value(chance: &mut Chance) -> u32 {
+/// 0, or a command by these limits, in one case of eight with the largest hoard.
+fn value(chance: &mut Chance, limits: &Limits) -> u32 {
     let piece = chance.below(64);
-    let limit = [255, 255, 200, 200, 120, 120, 60, 60][piece as usize / 8];
+    let largest = limits[piece as usize / 8];
+    let hoard = if chance.one_in(8) { largest } else { chance.from_to(1, largest) };
     match chance.below(4) {
         0 => 0,
         3 => 3 << 16 | piece << 8,
-        kind => kind << 16 | piece << 8 | chance.from_to(1, limit),
+        kind => kind << 16 | piece << 8 | hoard,
     }
 }
 

@@ -1,7 +1,7 @@
 //! One row of cells, lent to both implementations.
 
 use other::generator::{Call, Reply};
-use other::{Answer, Step};
+use other::{limits_of, Answer, Limits, Step};
 use register::{Error, NotOpened, Room};
 
 use crate::same::{answer, register_step};
@@ -33,11 +33,17 @@ impl Pair {
         self.before[at] = value;
     }
 
-    /// Opens the row.
-    pub fn open(&mut self, servers: u32, drives: u32, slots: u32) -> Result<(), u32> {
-        let theirs = other::open(&mut self.theirs, servers, drives, slots);
+    /// Opens the row with these limits.
+    pub fn open(
+        &mut self,
+        servers: u32,
+        drives: u32,
+        slots: u32,
+        limits: Limits,
+    ) -> Result<(), u32> {
+        let theirs = other::open(&mut self.theirs, servers, drives, slots, &limits);
         let cells = std::mem::replace(&mut self.mine, Room::over(Vec::new())).into_row();
-        let mine = match Room::open_in(cells, servers, drives, slots) {
+        let mine = match Room::open_in_with(cells, servers, drives, slots, limits.into()) {
             Ok(room) => {
                 self.mine = room;
                 Ok(())
@@ -47,8 +53,12 @@ impl Pair {
                 Err(error.number())
             }
         };
-        assert_eq!(mine, theirs, "open {servers} {drives} {slots} in {} cells", self.theirs.len());
-        self.compare(theirs.is_err(), "open");
+        let cells = self.theirs.len();
+        assert_eq!(mine, theirs, "open {servers} {drives} {slots} {limits:?} in {cells} cells");
+        if theirs.is_ok() {
+            self.before.copy_from_slice(&self.theirs);
+        }
+        self.compare(true, "open");
         theirs
     }
 
@@ -115,7 +125,7 @@ impl Pair {
     }
 
     /// Compares every cell. After a refusal or an Ask the cells are compared with
-    /// those before it, which it keeps.
+    /// those before it, which it keeps; no call keeps less than the limits.
     fn compare(&mut self, kept: bool, call: impl std::fmt::Debug) {
         assert!(
             self.mine.cells() == self.theirs,
@@ -125,6 +135,8 @@ impl Pair {
         if kept {
             assert!(self.theirs == self.before, "a cell changed at {call:?}, which keeps them all");
         } else {
+            let (limits, before) = (limits_of(&self.theirs), limits_of(&self.before));
+            assert_eq!(limits, before, "a limit changed at {call:?}");
             self.before.copy_from_slice(&self.theirs);
         }
     }

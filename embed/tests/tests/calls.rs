@@ -3,8 +3,8 @@
 
 use std::collections::BTreeMap;
 
-use other::generator::{Call, Caller, Chance, Habits, Reply};
-use other::{is_command, judge, Sizes};
+use other::generator::{any_limits, Call, Caller, Chance, Habits, Reply};
+use other::{is_command, judge, limits_of, Sizes};
 use tests::hostile::{any_cells, in_range};
 use tests::{every_size, numbers, Pair};
 
@@ -12,10 +12,10 @@ use tests::{every_size, numbers, Pair};
 const CALLS: u32 = 600;
 const RUNS: u32 = 4;
 
-/// Piece 5 enters hoard 9.
-const COIN: u32 = 66_825;
+/// Piece 5 enters hoard 1, which every cabinet has.
+const COIN: u32 = 66_817;
 
-/// Commands, and numbers that are none.
+/// Commands of every room, or of some, and numbers that are none.
 const COMMANDS: [u32; 8] = [COIN, 81_724, 147_260, 196_608, 0, 81_725, 196_609, u32::MAX];
 
 /// Numbers beyond every room; the last byte of most is not.
@@ -63,7 +63,8 @@ fn a_million_calls_in_rooms_of_every_size() {
 fn run(sizes: Sizes, mut chance: Chance, answers: &mut Answers) {
     let (servers, drives, slots) = numbers(sizes);
     let mut pair = Pair::over((0..sizes.length()).map(|_| chance.draw() as u32).collect());
-    pair.open(servers, drives, slots).expect("the sizes fit");
+    let limits = any_limits(&mut chance);
+    pair.open(servers, drives, slots, limits).expect("the sizes and the limits fit");
     let habits = Habits::any(&mut chance);
     let mut caller = Caller::new(&mut chance, sizes, habits);
     for _ in 0..CALLS {
@@ -78,7 +79,7 @@ fn run(sizes: Sizes, mut chance: Chance, answers: &mut Answers) {
 }
 
 /// Asks, and puts a number in the slot named: in any room in range it is done if the
-/// number is a command, and refused with 5 if not.
+/// number is a command there, and refused with 5 if not.
 fn ask_then_put(pair: &mut Pair, chance: &mut Chance, server: u32, answers: &mut Answers) {
     let in_range = judge(pair.cells()).is_some();
     let asked = pair.ask(server);
@@ -86,10 +87,11 @@ fn ask_then_put(pair: &mut Pair, chance: &mut Chance, server: u32, answers: &mut
     assert_eq!(asked == Err(3), !in_range);
     let slot = asked.unwrap_or(0);
     let command = chance.one_of(&COMMANDS);
+    let legal = limits_of(pair.cells()).is_some_and(|limits| is_command(command, limits));
     let answer = pair.put(server, slot, command);
     count(answers, Call::Put { server, slot, command }, Reply::of_put(answer));
     match asked {
-        Ok(_) if is_command(command) => assert_eq!(answer, Ok(())),
+        Ok(_) if legal => assert_eq!(answer, Ok(())),
         Ok(_) => assert_eq!(answer, Err(5)),
         Err(_) => assert_eq!(answer == Err(3), !in_range),
     }

@@ -1,7 +1,7 @@
 //! What is told and learned, by every small case: two servers and one drive, with
 //! each phase, and each command that the cells inp, agreed and done can hold.
 
-use other::{Answer, Sizes, Step};
+use other::{Answer, Sizes, Step, USUAL_LIMITS};
 use tests::Pair;
 
 /// None, piece 5 enters hoard 9, and hoard 8.
@@ -30,7 +30,7 @@ struct Case {
 impl Case {
     fn room(self) -> Vec<u32> {
         let mut room = vec![0; SIZES.length()];
-        other::open(&mut room, 2, 1, 1).expect("the sizes fit");
+        other::open(&mut room, 2, 1, 1, &USUAL_LIMITS).expect("the sizes fit");
         let (written, read) = if self.marked { (1, 3) } else { (0, 0) };
         let (at, inp) = (SIZES.server_at(0, 0), self.inp);
         let record = [self.phase, BALLOT, 3, inp, VALUES[1], 0, 3, inp, written, read, self.agreed];
@@ -119,7 +119,7 @@ fn every_step_of_every_case() {
         assert_eq!(answer, case.read(), "{case:?}");
         if let Answer::Committed(command) = answer {
             let learned = [3, BALLOT, 3, case.inp, VALUES[1], 0, 3, case.inp, 0, 0, command];
-            assert_eq!(pair.cells()[4..15], learned, "{case:?}");
+            assert_eq!(pair.cells()[12..23], learned, "{case:?}");
         }
         let (answer, pair) = step(case, false, WRITE);
         assert_eq!(answer == Answer::Done, case.phase != 0, "{case:?}");

@@ -1,7 +1,7 @@
 //! Every set of drives, of every number of drives: which are enough for Rejoin and
 //! for Finish.
 
-use other::{Answer, Step};
+use other::{Answer, Step, USUAL_LIMITS};
 use tests::Pair;
 
 /// Piece 5 enters hoard 9.
@@ -23,7 +23,7 @@ const FINISH: Step = Step::Finish { server: 0, slot: 0 };
 fn recalled(servers: u32, drives: u8, set: u32) -> Pair {
     let cells = other::room_length(servers, drives.into(), 1) as usize;
     let mut pair = Pair::over(vec![5; cells]);
-    pair.open(servers, drives.into(), 1).expect("the sizes fit");
+    pair.open(servers, drives.into(), 1, USUAL_LIMITS).expect("the sizes fit");
     assert_eq!(pair.step(Step::Offer { server: 0, slot: 0, number: COIN }), Answer::Done);
     each(&mut pair, drives, set, recall);
     pair

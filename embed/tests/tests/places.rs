@@ -1,7 +1,7 @@
-//! Where records and blocks stand and what they hold, by both implementations.
+//! Where limits, records and blocks stand and what they hold, by both implementations.
 
 use other::generator::Chance;
-use other::{Block, Server, Sizes};
+use other::{limits_of, Block, Server, Sizes};
 use register::{block_at, server_at, Room};
 use tests::hostile::in_range;
 use tests::{every_size, numbers};
@@ -63,6 +63,7 @@ fn what_stands_there() {
     for sizes in every_size() {
         let cells = in_range(&mut chance, sizes);
         let room = Room::over(cells.clone());
+        assert_eq!(room.limits().map(|limits| limits.numbers()), limits_of(&cells).copied());
         for (server, slot, drive) in places(sizes) {
             let (p, q, r) = (server as u32, slot as u32, drive as u32);
             let inside = server < sizes.servers && slot < sizes.slots;
@@ -75,6 +76,8 @@ fn what_stands_there() {
         let short = Room::over(&cells[..cells.len() - 1]);
         let (last, slot) = (sizes.servers as u32 - 1, sizes.slots as u32 - 1);
         assert_eq!(short.block(last, slot, sizes.drives as u32 - 1), None, "a cell is missing");
+        assert_eq!(Room::over(&cells[..12]).limits(), room.limits());
+        assert_eq!(Room::over(&cells[..11]).limits(), None);
     }
 }
 

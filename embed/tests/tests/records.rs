@@ -1,7 +1,7 @@
 //! Step records, read and written by both implementations.
 
 use other::generator::Chance;
-use other::{Answer, Step};
+use other::{Answer, Step, USUAL_LIMITS};
 use tests::{record_read, record_written, Pair};
 
 /// Every map, kind and length, with fields from a few patterns.
@@ -69,8 +69,8 @@ fn any_step_written() {
 #[test]
 fn records_on_a_room() {
     let mut chance = Chance::new(31);
-    let mut pair = Pair::over(vec![0; 188]);
-    pair.open(2, 3, 4).expect("the sizes fit");
+    let mut pair = Pair::over(vec![0; 196]);
+    pair.open(2, 3, 4, USUAL_LIMITS).expect("the sizes fit");
     let mut refused = [0; 16];
     for _ in 0..200_000 {
         let mut bytes: Vec<u8> = (0..chance.below(11)).map(|_| any_byte(&mut chance) % 5).collect();

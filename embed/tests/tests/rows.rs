@@ -1,8 +1,8 @@
 //! Rows from anywhere: random cells, one cell spoiled, wrong lengths, and rooms in
 //! range that no run reaches.
 
-use other::generator::{any_step, Chance, Driver, Habits, Learning, Taken};
-use other::{Answer, Sizes};
+use other::generator::{any_limits, any_step, Chance, Driver, Habits, Learning, Taken};
+use other::{is_command, Answer, Sizes, USUAL_LIMITS};
 use tests::hostile::{any_cells, any_number, in_range, EDGES};
 use tests::{every_size, numbers, Pair};
 
@@ -70,7 +70,8 @@ fn random_cells() {
 fn after_a_run(chance: &mut Chance, sizes: Sizes) -> Pair {
     let (servers, drives, slots) = numbers(sizes);
     let mut pair = Pair::over(vec![0; sizes.length()]);
-    pair.open(servers, drives, slots).expect("the sizes fit");
+    let limits = any_limits(chance);
+    pair.open(servers, drives, slots, limits).expect("the sizes and the limits fit");
     let habits = Habits::any(chance);
     let mut driver = Driver::new(chance, sizes, habits);
     for _ in 0..20 * sizes.length() {
@@ -122,16 +123,17 @@ fn restore(pair: &mut Pair, kept: &[u32]) {
 }
 
 #[test]
-fn every_length_from_0_to_2600() {
+fn every_length_from_0_to_2608() {
     let mut chance = Chance::new(19);
     let sizes: Vec<Sizes> = every_size().collect();
     let mut opened = 0;
-    for length in 0..=2600 {
+    for length in 0..=2608 {
         let mut pair = Pair::over((0..length).map(|_| any_number(&mut chance)).collect());
+        let limits = any_limits(&mut chance);
         for &sizes in &sizes {
             let (servers, drives, slots) = numbers(sizes);
-            let answer = pair.open(servers, drives, slots);
-            assert_eq!(answer.is_ok(), sizes.length() == length);
+            let answer = pair.open(servers, drives, slots, limits);
+            assert_eq!(answer, if sizes.length() == length { Ok(()) } else { Err(2) });
             opened += u32::from(answer.is_ok());
         }
         wrong_length(&mut chance, length);
@@ -140,26 +142,28 @@ fn every_length_from_0_to_2600() {
     assert_eq!(opened, 448);
 }
 
-/// A row of this length that claims the sizes of a room, for some sizes.
+/// A row of this length that claims the sizes of a room, for some sizes, with limits
+/// that are in range.
 fn wrong_length(chance: &mut Chance, length: usize) {
     for _ in 0..12 {
         let claimed = [chance.from_to(1, 4), chance.from_to(1, 7), chance.from_to(1, 16)];
-        let mut row = vec![0; length];
-        let head = length.min(3);
-        row[..head].copy_from_slice(&claimed[..head]);
+        let limits = any_limits(chance);
+        let mut row = [&claimed[..], &[0], &limits].concat();
+        row.resize(length, 0);
         let mut pair = Pair::over(row);
         let fits = other::room_length(claimed[0], claimed[1], claimed[2]) as usize == length;
         let refused = Answer::Refused(3);
         assert_eq!(pair.step(other::Step::DriveOff { drive: 0 }) == refused, !fits);
         assert_eq!(pair.catalogue(0, 64).is_err(), !fits);
         assert_eq!(pair.ask(0), if fits { Ok(0) } else { Err(3) });
-        assert_eq!(pair.put(0, 0, COIN), if fits { Ok(()) } else { Err(3) });
+        let put = if is_command(COIN, &limits) { Ok(()) } else { Err(5) };
+        assert_eq!(pair.put(0, 0, COIN), if fits { put } else { Err(3) });
     }
 }
 
 fn room_of_one() -> Pair {
-    let mut pair = Pair::over(vec![0; 19]);
-    pair.open(1, 1, 1).expect("the sizes fit");
+    let mut pair = Pair::over(vec![0; 27]);
+    pair.open(1, 1, 1, USUAL_LIMITS).expect("the sizes fit");
     pair
 }
 
@@ -171,11 +175,12 @@ fn sizes_that_do_not_fit() {
             for slots in numbers {
                 let length = other::room_length(servers, drives, slots) as usize;
                 assert_eq!(register::room_length(servers, drives, slots).unwrap_or(0), length);
-                for length in [0, 1, 4, 17, 19, length, length + 1, 1988, 2500] {
+                for length in [0, 1, 4, 12, 19, 27, length, length + 1, 1988, 2500, 2508] {
                     let mut pair = Pair::over(vec![7; length]);
-                    let _ = pair.open(servers, drives, slots);
-                    let mut row = vec![0; length.max(3)];
+                    let _ = pair.open(servers, drives, slots, USUAL_LIMITS);
+                    let mut row = vec![0; length.max(12)];
                     row[..3].copy_from_slice(&[servers, drives, slots]);
+                    row[4..12].copy_from_slice(&USUAL_LIMITS);
                     let mut pair = Pair::over(row);
                     pair.step(other::Step::Fail { server: 0 });
                 }

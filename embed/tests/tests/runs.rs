@@ -1,8 +1,8 @@
-//! Whole runs in rooms of every size, compared after every call.
+//! Whole runs in rooms of every size, with any limits, compared after every call.
 
 use std::collections::BTreeMap;
 
-use other::generator::{Chance, Driver, Habits, Learning, Taken};
+use other::generator::{any_limits, Chance, Driver, Habits, Learning, Taken};
 use other::{Answer, Sizes};
 use tests::{every_size, numbers, Pair};
 
@@ -44,7 +44,8 @@ fn millions_of_steps_in_rooms_of_every_size() {
 fn run(sizes: Sizes, mut chance: Chance, answers: &mut Answers, learning: &mut Learning) {
     let (servers, drives, slots) = numbers(sizes);
     let mut pair = Pair::over((0..sizes.length()).map(|_| chance.draw() as u32).collect());
-    pair.open(servers, drives, slots).expect("the sizes fit");
+    let limits = any_limits(&mut chance);
+    pair.open(servers, drives, slots, limits).expect("the sizes and the limits fit");
     let habits = Habits::any(&mut chance);
     let mut driver = Driver::new(&mut chance, sizes, habits);
     let mut before = pair.cells().to_vec();

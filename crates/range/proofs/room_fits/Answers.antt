@@ -1,4 +1,4 @@
--- `range::room_fits` meets its contract: the off marks, then the slots, by the masks and the table that the code has.
+-- `range::room_fits` meets its contract: the limits, the off marks, then the slots, by the masks and the table that the code has.
 use Prim.Native.Nat.{ℕ, ◌*◌, ◌-◌}
 use mathlib.Core.Path.{◌≡◌, ◌∙◌, sym, ap}
 use mathlib.Core.Bool.{Bool}
@@ -8,6 +8,7 @@ use lib.ListN.{length, take, drop}
 use Rattle.lemmas.proofs.Tests.{none_left, goes_on}
 use Rattle.std.specs.List.{list_all}
 use Rattle.std.proofs.lemmas.List.{take_all, length-drop}
+use Rattle.command.specs.Command.{limits_fit}
 use Rattle.command.specs.Tops.{tops_of, value_by}
 use Rattle.quorum.specs.Sets.{all_below, within}
 use Rattle.state.specs.declared.Sizes.{Sizes}
@@ -23,6 +24,10 @@ use Rattle.range.proofs.room_fits.Goals as goal
 -- what the test of the off marks has judged: by the masks that the code has
 off : (z : Sizes) (k : Masks) (marks : ℕ) (x : Bool) → k ≡ masks_of z → x ≡ within marks k.drives → x ≡ within marks (legal_drives z)
 off z k marks x e judged = judged ∙ ap (λ (m : Masks). within marks m.drives) e
+
+-- what the test of the limits has judged: those that were read
+hoards_fit : (limits read : List ℕ) (x : Bool) → read ≡ limits → x ≡ limits_fit read → x ≡ limits_fit limits
+hoards_fit limits read x e judged = judged ∙ ap limits_fit e
 
 -- the slots of the row, judged each as a row of its own and by the table of the limits
 slots
@@ -44,6 +49,13 @@ slice_bounds-slots_fit-count c = row_head c.args.room.now.sizes c.args.room.now.
 pub slice_bounds-slots_fit-start : goal.slice_bounds-slots_fit-start
 slice_bounds-slots_fit-start c = row_head c.args.room.now.sizes c.args.room.now.cells.now c.args.room.now.row
 
+pub returns-then-not-fit : goal.returns-then-not-fit
+unfolding room_fits
+returns-then-not-fit c =
+    let room = c.args.room.now in
+    let hoards = hoards_fit (limits_of room.cells.now) _ _ c.limits-limits.ensures c.fit.ensures in
+    sym (none_left _ _ (sym hoards ∙ c.if-not-fit.true))
+
 pub returns-then-only_legal : goal.returns-then-only_legal
 unfolding room_fits
 returns-then-only_legal c =
@@ -53,14 +65,19 @@ returns-then-only_legal c =
     let masks = c.masks_of.ensures ∙ ap masks_of same in
     let judged = off room.sizes c.masks_of.result (off_of cells) _ masks
     (c.only_legal.ensures ∙ ap (λ (m : ℕ). within m c.masks_of.result.drives) c.off.ensures) in
-    goes_on _ _ _ (sym judged ∙ c.if-only_legal.true)
-    (slots (limits_of cells) room.sizes cells _ _ _ _ room.row (c.tops.ensures ∙ ap tops_of c.limits.ensures) masks same c.slots_fit.ensures)
+    let hoards = hoards_fit (limits_of cells) _ _ c.limits-limits.ensures c.fit.ensures in
+    goes_on _ _ _ (sym hoards ∙ c.if-not-fit.false)
+    (goes_on _ _ _ (sym judged ∙ c.if-only_legal.true)
+    (slots (limits_of cells) room.sizes cells _ _ _ _ room.row (c.tops.ensures ∙ ap tops_of c.limits-limits.ensures) masks same c.slots_fit.ensures))
 
 pub returns-else-only_legal : goal.returns-else-only_legal
 unfolding room_fits
 returns-else-only_legal c =
     let room = c.args.room.now in
+    let cells = room.cells.now in
     let masks = c.masks_of.ensures ∙ ap masks_of c.plan-plan.ensures in
-    let judged = off room.sizes c.masks_of.result (off_of room.cells.now) _ masks
+    let judged = off room.sizes c.masks_of.result (off_of cells) _ masks
     (c.only_legal.ensures ∙ ap (λ (m : ℕ). within m c.masks_of.result.drives) c.off.ensures) in
-    c.if-only_legal.false ∙ sym (none_left _ _ (sym judged ∙ c.if-only_legal.false))
+    let hoards = hoards_fit (limits_of cells) _ _ c.limits-limits.ensures c.fit.ensures in
+    goes_on _ _ _ (sym hoards ∙ c.if-not-fit.false)
+    (c.if-only_legal.false ∙ sym (none_left _ _ (sym judged ∙ c.if-only_legal.false)))

@@ -91,16 +91,16 @@ impl Caller {
     pub fn next_call(&mut self, chance: &mut Chance, room: &[u32]) -> Call {
         if self.asked && !chance.one_in(4) {
             let last = self.named.len() - 1;
-            return self.put_in_named(chance, last);
+            return self.put_in_named(chance, room, last);
         }
         if chance.per_mille(self.rate) {
             return match chance.below(8) {
                 0..=3 => Call::Ask { server: any_number(chance, self.sizes.servers) },
                 4 | 5 if !self.named.is_empty() => {
                     let place = chance.place(self.named.len());
-                    self.put_in_named(chance, place)
+                    self.put_in_named(chance, room, place)
                 }
-                _ => self.put_anywhere(chance),
+                _ => self.put_anywhere(chance, room),
             };
         }
         match self.driver.next_step(chance, room) {
@@ -125,17 +125,17 @@ impl Caller {
     }
 
     /// A Put by a server that has asked, in the slot that was named then.
-    fn put_in_named(&mut self, chance: &mut Chance, place: usize) -> Call {
+    fn put_in_named(&mut self, chance: &mut Chance, room: &[u32], place: usize) -> Call {
         let (server, slot) = self.named.swap_remove(place);
-        Call::Put { server, slot, command: any_command(chance, self.driver.pieces()) }
+        Call::Put { server, slot, command: any_command(chance, room, self.driver.pieces()) }
     }
 
     /// A Put in any slot, free or not.
-    fn put_anywhere(&self, chance: &mut Chance) -> Call {
+    fn put_anywhere(&self, chance: &mut Chance, room: &[u32]) -> Call {
         Call::Put {
             server: any_number(chance, self.sizes.servers),
             slot: any_number(chance, self.sizes.slots),
-            command: any_command(chance, self.driver.pieces()),
+            command: any_command(chance, room, self.driver.pieces()),
         }
     }
 }

@@ -152,7 +152,8 @@ impl Driver {
             };
         }
         if own.phase == 1 && own.seeninp == 0 && own.offer == 0 && !self.silent {
-            return Step::Offer { server, slot, number: good_command(chance, &self.pieces) };
+            let number = good_command(chance, room, &self.pieces);
+            return Step::Offer { server, slot, number };
         }
         if chance.per_mille(self.habits.bids) {
             return Step::Bid { server, slot, number: self.ballot(chance, own.mbal) };

@@ -3,6 +3,7 @@
 use super::chance::Chance;
 use super::driver::Driver;
 use super::habits::Habits;
+use crate::commands::USUAL_LIMITS;
 use crate::records::{write_record, LONGEST_RECORD};
 use crate::rehearse::INPUT_LIMIT;
 use crate::room::{open, Sizes};
@@ -90,8 +91,9 @@ impl Run {
     fn new(chance: &mut Chance, sizes: Sizes) -> Run {
         let mut room = vec![0; sizes.length()];
         let Sizes { servers, drives, slots } = sizes;
-        let opened = open(&mut room, servers as u32, drives as u32, slots as u32);
-        assert_eq!(opened, Ok(()), "the sizes fit and the length is exact");
+        let (servers, drives, slots) = (servers as u32, drives as u32, slots as u32);
+        let opened = open(&mut room, servers, drives, slots, &USUAL_LIMITS);
+        assert_eq!(opened, Ok(()), "the sizes and the limits fit and the length is exact");
         let habits = Habits::any(chance);
         Run { room, driver: Driver::new(chance, sizes, habits), input: head(sizes) }
     }

@@ -6,6 +6,7 @@
 //! - `noise`: steps of any kind, many of which are refused.
 //! - `calls`: the steps of a driver with Asks and Puts among them.
 //! - `inputs`: whole inputs, damaged ones among them.
+//! - `limits`: limits of cabinets that open accepts.
 //! - `tally`: how often each answer occurs in what rehearse prints.
 //! - `replay`: the steps of an input, taken once more.
 //! - `halves`: how often exactly half of the drives decide a step.
@@ -18,6 +19,7 @@ mod habits;
 mod halves;
 mod inputs;
 mod learning;
+mod limits;
 mod noise;
 mod replay;
 mod tally;
@@ -29,6 +31,7 @@ pub use habits::Habits;
 pub use halves::Halves;
 pub use inputs::{make_input, SIZES};
 pub use learning::Learning;
+pub use limits::any_limits;
 pub use noise::any_step;
 pub use replay::{replay, Taken};
 pub use tally::Tally;

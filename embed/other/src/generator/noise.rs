@@ -2,8 +2,8 @@
 //! or command is often wrong.
 
 use super::chance::Chance;
-use crate::commands::limit;
-use crate::room::Sizes;
+use crate::commands::cabinet;
+use crate::room::{limits_of, Sizes};
 use crate::server::Server;
 use crate::steps::Step;
 use crate::{least_own_above, BALLOT_LIMIT};
@@ -24,7 +24,7 @@ pub fn any_step(
     let drive = byte(chance, sizes.drives);
     let other = byte(chance, sizes.servers);
     match kind {
-        1 => Step::Offer { server, slot, number: any_command(chance, pieces) },
+        1 => Step::Offer { server, slot, number: any_command(chance, room, pieces) },
         2 => Step::Recall { server, slot, drive },
         3 => Step::Rejoin { server, slot, number: any_ballot(chance, room, sizes, server, slot) },
         4 => Step::Bid { server, slot, number: any_ballot(chance, room, sizes, server, slot) },
@@ -48,17 +48,23 @@ fn byte(chance: &mut Chance, size: usize) -> u8 {
     }
 }
 
-/// A command, now and then a number that is none.
-pub(super) fn any_command(chance: &mut Chance, pieces: &[u32]) -> u32 {
+/// A command of the room, now and then a number that is none.
+pub(super) fn any_command(chance: &mut Chance, room: &[u32], pieces: &[u32]) -> u32 {
     match chance.below(8) {
         0 => wrong_command(chance),
         1 => {
             // The largest hoard of the piece's cabinet, or the one above it.
             let piece = chance.below(64);
-            (chance.from_to(1, 2) << 16 | piece << 8) + limit(piece) + chance.below(2)
+            let first = chance.from_to(1, 2) << 16 | piece << 8;
+            first.wrapping_add(limit(room, piece)).wrapping_add(chance.below(2))
         }
-        _ => good_command(chance, pieces),
+        _ => good_command(chance, room, pieces),
     }
+}
+
+/// The limit of a piece's cabinet. In a row that is no room it may be any number.
+fn limit(room: &[u32], piece: u32) -> u32 {
+    limits_of(room).map_or(0, |limits| limits[cabinet(piece)])
 }
 
 /// A number that is no command, or is only by luck.
@@ -70,12 +76,13 @@ fn wrong_command(chance: &mut Chance) -> u32 {
     }
 }
 
-/// A command for one of `pieces`, which all have hoards up to 60 at least.
-pub(super) fn good_command(chance: &mut Chance, pieces: &[u32]) -> u32 {
+/// A command of the room for one of `pieces`. Few hoards, so that commands meet.
+pub(super) fn good_command(chance: &mut Chance, room: &[u32], pieces: &[u32]) -> u32 {
     let piece = chance.one_of(pieces);
+    let largest = limit(room, piece).clamp(1, 60);
     match chance.below(5) {
-        0 | 1 => 1 << 16 | piece << 8 | chance.from_to(1, 60),
-        2 | 3 => 2 << 16 | piece << 8 | chance.from_to(1, 60),
+        0 | 1 => 1 << 16 | piece << 8 | chance.from_to(1, largest),
+        2 | 3 => 2 << 16 | piece << 8 | chance.from_to(1, largest),
         _ => 3 << 16 | piece << 8,
     }
 }

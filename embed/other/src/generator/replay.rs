@@ -1,5 +1,6 @@
 //! The steps of an input for rehearse, taken once more.
 
+use crate::commands::USUAL_LIMITS;
 use crate::records::read_record;
 use crate::rehearse::INPUT_LIMIT;
 use crate::room::{open, Sizes};
@@ -28,7 +29,8 @@ pub fn replay(input: &[u8], mut see: impl FnMut(Taken)) {
         return;
     };
     let mut room = vec![0; sizes.length()];
-    if input.len() > INPUT_LIMIT || open(&mut room, servers, drives, slots).is_err() {
+    let opened = open(&mut room, servers, drives, slots, &USUAL_LIMITS);
+    if input.len() > INPUT_LIMIT || opened.is_err() {
         return;
     }
     let mut before = room.clone();

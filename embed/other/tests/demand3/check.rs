@@ -1,7 +1,7 @@
 //! The machines of a room, fed with a run, and held against its cells.
 
 use other::generator::{Call, Reply, Taken};
-use other::{catalogue, is_command, Answer, Block, Server, Sizes, Step, STRUCK};
+use other::{catalogue, is_command, Answer, Block, Limits, Server, Sizes, Step, STRUCK};
 
 use crate::machine::Machine;
 use crate::seen::Seen;
@@ -9,6 +9,7 @@ use crate::seen::Seen;
 /// One machine for each slot, and what has been seen.
 pub struct Check {
     sizes: Sizes,
+    limits: Limits,
     machines: Vec<Machine>,
     /// The slots with an accepted Offer, as marks.
     offered: u32,
@@ -19,9 +20,9 @@ pub struct Check {
 
 impl Check {
     /// The check of a new room. What is seen is added to `seen`.
-    pub fn new(sizes: Sizes, seen: Seen) -> Check {
+    pub fn new(sizes: Sizes, limits: Limits, seen: Seen) -> Check {
         let machines = (0..sizes.slots).map(|_| Machine::default()).collect();
-        Check { sizes, machines, offered: 0, named: None, seen }
+        Check { sizes, limits, machines, offered: 0, named: None, seen }
     }
 
     /// Feeds the machines with a call and its reply.
@@ -62,7 +63,7 @@ impl Check {
     /// is free by the machine.
     fn feed_put(&mut self, server: usize, slot: usize, command: u32, reply: Reply) {
         let inside = server < self.sizes.servers && slot < self.sizes.slots;
-        let expected = match (inside, is_command(command)) {
+        let expected = match (inside, is_command(command, &self.limits)) {
             (false, _) => Err(4),
             (true, false) => Err(5),
             (true, true) if !self.machines[slot].is_free(server) => Err(16),
@@ -85,7 +86,7 @@ impl Check {
     /// A Put straight after the same server's Ask that named its slot meets no
     /// refusal but 5.
     fn put_as_named(&mut self, command: u32, reply: Reply) {
-        if is_command(command) {
+        if is_command(command, &self.limits) {
             assert_eq!(reply, Reply::Answer(Answer::Done));
             self.seen.puts.straight += 1;
         } else {

@@ -8,24 +8,26 @@ mod machine;
 mod seen;
 
 use check::Check;
-use other::generator::{Call, Caller, Chance, Habits};
-use other::{judge, open, room_length, Sizes};
+use other::generator::{any_limits, Call, Caller, Chance, Habits};
+use other::{judge, limits_of, open, room_length, Sizes};
 use seen::Seen;
 
-/// A run of `count` calls in a new room, checked at every call. What is seen is
-/// added to `seen`.
+/// A run of `count` calls in a new room with any limits, checked at every call.
+/// What is seen is added to `seen`.
 fn run(chance: &mut Chance, sizes: Sizes, habits: Habits, count: u32, seen: Seen) -> Seen {
     let (servers, drives, slots) = (sizes.servers as u32, sizes.drives as u32, sizes.slots as u32);
     let mut room = vec![0; room_length(servers, drives, slots) as usize];
-    assert_eq!(open(&mut room, servers, drives, slots), Ok(()));
+    let limits = any_limits(chance);
+    assert_eq!(open(&mut room, servers, drives, slots, &limits), Ok(()));
     let mut caller = Caller::new(chance, sizes, habits);
-    let mut check = Check::new(sizes, seen);
+    let mut check = Check::new(sizes, limits, seen);
     for _ in 0..count {
         let before = room.clone();
         let call = caller.next_call(chance, &room);
         let reply = call.make(&mut room);
         caller.hear(call, reply);
         assert!(judge(&room) == Some(sizes), "{call:?} left the range");
+        assert_eq!(limits_of(&room), Some(&limits), "{call:?}");
         if matches!(call, Call::Ask { .. }) || reply.refusal().is_some() {
             assert_eq!(room, before, "{call:?}: {reply:?}");
         }
