@@ -1,3 +1,3 @@
--- The packing of an answer in one number, and the calls that C has beside the register's own.
+-- The answers, each packed in one number, and the calls that C has beside the register's own.
 pub mod Packing
 pub mod Calls

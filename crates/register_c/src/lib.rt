@@ -14,9 +14,11 @@ ghost use Rattle.record.specs.Fields.{fields};
 ghost use Rattle.record.specs.Read.{reading_of};
 ghost use Rattle.record.specs.Write.{writing_from, written_from};
 ghost use Rattle.catalogue.specs.Call.{catalogue_of, catalogue_cells};
-ghost use Rattle.register_c.specs.Packing.{packed, packed_by, packed_answer, packed_number, packed_listing, packed_reading};
+ghost use Rattle.packing.specs.Packing.{packed_number};
+ghost use Rattle.register_c.specs.Packing.{packed_answer, packed_listing, packed_reading};
 ghost use Rattle.register_c.specs.Calls.{record_answered, record_stepped, fields_reading, fields_read};
 
+use packing::{pack, word};
 use register::{Fields, Limits, Refusal};
 use state::{Answer, Sizes};
 
@@ -196,18 +198,4 @@ fn answer_word(answered: Result<Answer, Refusal>) -> u64
     ensures { result ≡ packed_answer answered }
 {
     pack(state::code(answered), state::number(answered))
-}
-
-// Any other answer: the number of what was accepted, or the refusal.
-fn word(answer: Result<u64, Refusal>) -> u64
-    ensures { result ≡ packed_by (λ n. n) answer }
-{
-    answer.unwrap_or_else(|refusal| answer_word(Err(refusal)))
-}
-
-// The word in the upper half, the number in the lower.
-fn pack(word: u32, number: u32) -> u64
-    ensures { result ≡ packed word number }
-{
-    u64::from(word) * (1 << 32) + u64::from(number)
 }

@@ -12,7 +12,8 @@ use Rattle.checks.specs.declared.Refusal.TheVariants.{WrongLength}
 use Rattle.checks.specs.Checks.{left_by}
 use Rattle.checks.proofs.CheckLaws.{passes, fails}
 use Rattle.record.specs.Read.{Reading, Found, reading_of, found_in, found_of}
-use Rattle.register_c.specs.Packing.{packed_by, packed_number, packed_reading}
+use Rattle.packing.specs.Packing.{packed_by, packed_number}
+use Rattle.register_c.specs.Packing.{packed_reading}
 use Rattle.register_c.specs.Calls.{field_cells, fields_reading, fields_read}
 use Rattle.register_c.proofs.store_fields.Goals as goal
 

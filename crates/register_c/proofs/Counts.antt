@@ -1,5 +1,5 @@
--- The packing loses nothing: both halves of an answer, and both counts of a catalogue, can be had back.
-use Prim.Native.Nat.{ℕ, ◌+◌, ◌*◌, ◌/◌, ◌%◌, ◌<◌, ◌≤◌}
+-- The packing of a catalogue loses nothing: both counts can be had back from its answer.
+use Prim.Native.Nat.{ℕ, ◌+◌, ◌*◌, ◌/◌, ◌%◌, ◌≤◌}
 use mathlib.Core.List.{List}
 use mathlib.Core.Path.{◌≡◌, subst⁻¹}
 use native.Mathlib.Omega.{arith}
@@ -8,14 +8,8 @@ use Rattle.range.proofs.Laws.{range_says}
 use Rattle.catalogue.specs.Call.{catalogue_of}
 use Rattle.catalogue.specs.Listing.{taken_of, skipped_of}
 use Rattle.catalogue.proofs.AnswerLaws.{accepted_is, accepted_says}
-use Rattle.register_c.specs.Packing.{packed, packed_listing}
-
-module _ (word number : ℕ) (fits : number < 4294967296) where
-  pub upper : packed word number / 4294967296 ≡ word
-  upper = omega arith
-
-  pub lower : packed word number % 4294967296 ≡ number
-  lower = omega arith
+use Rattle.packing.specs.Packing.{packed}
+use Rattle.register_c.specs.Packing.{packed_listing}
 
 -- an accepted catalogue's answer: the word 0, and the two counts
 pub record Counts (taken skipped answer : ℕ) : Type 0 where

@@ -1,0 +1,2 @@
+-- Laws about the packing.
+pub mod Halves

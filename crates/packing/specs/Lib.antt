@@ -1,0 +1,2 @@
+-- How an answer is one number for C.
+pub mod Packing
