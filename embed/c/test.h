@@ -2,23 +2,10 @@
 #ifndef TEST_H
 #define TEST_H
 
+#include "checks.h"
 #include "register.h"
 
 #include <inttypes.h>
-#include <stdio.h>
-#include <string.h>
-
-static int failures;
-
-static inline void check(int holds, const char *file, int line, const char *what)
-{
-    if (!holds) {
-        printf("%s:%d: %s\n", file, line, what);
-        failures++;
-    }
-}
-
-#define CHECK(holds) check(holds, __FILE__, __LINE__, #holds)
 
 /* Numbers that are no size and no place. */
 static const uint32_t beyond[] = {5, 8, 17, 255, 256, 65536, UINT32_C(1) << 31, UINT32_MAX};
@@ -33,13 +20,6 @@ static const uint32_t usual[REGISTER_CABINETS] = REGISTER_USUAL_LIMITS;
 static inline uint32_t open_usual(uint32_t *row, size_t cells, uint32_t servers, uint32_t drives, uint32_t slots)
 {
     return register_open(row, cells, servers, drives, slots, usual, REGISTER_CABINETS);
-}
-
-/* Prints how many checks failed. The status of the program: 1 where one did. */
-static inline int failed(void)
-{
-    printf("%d failed\n", failures);
-    return failures != 0;
 }
 
 /* The answer of a call that is refused with this number. */

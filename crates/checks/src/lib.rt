@@ -11,7 +11,7 @@ pub enum Refusal {
     SizesUnfit = 1,
     // A lent length is wrong.
     WrongLength = 2,
-    // The row is no room in range.
+    // The row is no room in range, or a catalogue has a cell above 256.
     OutOfRange = 3,
     // A server, slot, drive or other server beyond the room, or the other is the server itself.
     BeyondRoom = 4,

@@ -1,5 +1,5 @@
-// How an answer is one number for C: a word in the upper half of 64 bits, a number in the lower. The library `register_c`
-// packs its answers by these.
+// How an answer is one number for C: a word in the upper half of 64 bits, a number in the lower. The libraries `register_c`
+// and `printing_c` pack their answers by these.
 #![tactic(auto)]
 
 ghost use Rattle.std.specs.Prelude.{◌≡◌};

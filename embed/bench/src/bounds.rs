@@ -5,13 +5,14 @@ use other::MOST_CELLS;
 use crate::tables::{Line, On};
 
 /// The largest ratio that each call may have, on the largest room where it takes one.
-const BOUNDS: [(&str, f64); 6] = [
+const BOUNDS: [(&str, f64); 7] = [
     ("step", 0.80),
     ("ask, put", 0.80),
     ("catalogue", 0.80),
     ("read", 1.00),
     ("write", 1.40),
     ("in turn", 0.80),
+    ("hoard list", 1.00),
 ];
 
 /// Prints a line for each bound, and at last the worst ratio of all tables.
@@ -34,7 +35,7 @@ pub fn print(lines: &[Line]) {
 fn is_bounded(on: On) -> bool {
     match on {
         On::Room(sizes, state) => sizes.length() == MOST_CELLS && state != "mixed",
-        On::NoRoom(_) => true,
+        On::Catalogue(..) | On::NoRoom(_) => true,
     }
 }
 
@@ -42,11 +43,12 @@ fn worst<'a>(lines: impl Iterator<Item = &'a Line>) -> Option<&'a Line> {
     lines.max_by(|one, other| one.ratio().total_cmp(&other.ratio()))
 }
 
-/// The worst ratio of a call, and the state in which it has it.
+/// The worst ratio of a call, and the state or the case in which it has it.
 fn ratio_of(line: &Line) -> String {
     let (call, ratio) = (line.call, line.ratio());
     match line.on {
         On::Room(_, state) => format!("{call}, largest room: worst {ratio:.2} ({state})"),
+        On::Catalogue(_, case) => format!("{call}: worst {ratio:.2} ({case})"),
         On::NoRoom(_) => format!("{call}: {ratio:.2}"),
     }
 }

@@ -1,10 +1,11 @@
-//! Times the register beside the other implementation, and prints the tables of
-//! docs/PERFORMANCE.md. No test: it fails only where the cells differ, and not where a
-//! bound does not hold.
+//! Times the register beside the other implementation, and the hoard list beside plain Rust,
+//! and prints the tables of docs/PERFORMANCE.md. No test: it fails only where the cells
+//! differ, and not where a bound does not hold.
 
 mod ballots;
 mod bounds;
 mod clock;
+mod lists;
 mod machine;
 mod measure;
 mod rooms;
@@ -33,6 +34,7 @@ fn main() {
     let found = On::NoRoom(questions.len() as f64);
     tables.line("in turn", found, ballots::next::<true>(&questions));
     tables.line("at once", found, ballots::next::<false>(&questions));
+    hoard_lists(&mut tables);
     bounds::print(&tables.lines);
 }
 
@@ -72,6 +74,22 @@ fn catalogues(tables: &mut Tables, sizes: [Sizes; 4]) {
         ];
         for (state, room) in states {
             tables.line("catalogue", On::Room(sizes, state), measure::catalogue(room));
+        }
+    }
+}
+
+/// Beside a sort, which the bound is about, and beside a count, which is faster where many
+/// pieces are entered.
+fn hoard_lists(tables: &mut Tables) {
+    let peers: [(_, _, lists::Call); 2] = [
+        ("The hoard list of a catalogue, beside a sort", "hoard list", lists::sorted),
+        ("The same, beside a count of each hoard", "beside a count", lists::counted),
+    ];
+    for (title, call, plain) in peers {
+        tables.lists(title);
+        for case in lists::CASES {
+            let on = On::Catalogue(case.entered as f64, case.name);
+            tables.line(call, on, lists::lists(&lists::catalogues(&case), plain));
         }
     }
 }

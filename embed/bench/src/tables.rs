@@ -4,11 +4,12 @@ use other::Sizes;
 
 use crate::clock::Times;
 
-/// What a call works on: a room in some state; or no room, with the number that its table
-/// has in place of the cells.
+/// What a call works on: a room in some state; a catalogue of some case, with how many pieces
+/// are entered in it; or neither, with the number that its table has in place of the cells.
 #[derive(Clone, Copy)]
 pub enum On {
     Room(Sizes, &'static str),
+    Catalogue(f64, &'static str),
     NoRoom(f64),
 }
 
@@ -20,7 +21,7 @@ pub struct Line {
 }
 
 impl Line {
-    /// How many times as long the register takes, rounded up to the two digits that are
+    /// How many times as long the proved code takes, rounded up to the two digits that are
     /// printed: it is within a bound of two digits exactly where the ratio itself is.
     pub fn ratio(&self) -> f64 {
         (self.times.register / self.times.other * 100.0).ceil() / 100.0
@@ -32,6 +33,7 @@ impl Line {
             On::Room(Sizes { servers, drives, slots }, state) => {
                 format!("{servers},{drives},{slots} {state}")
             }
+            On::Catalogue(_, case) => case.to_string(),
             On::NoRoom(_) => self.call.to_string(),
         }
     }
@@ -39,7 +41,7 @@ impl Line {
     /// What is timed, among all tables.
     pub fn place(&self) -> String {
         match self.on {
-            On::Room(..) => format!("{} {}", self.call, self.name()),
+            On::Room(..) | On::Catalogue(..) => format!("{} {}", self.call, self.name()),
             On::NoRoom(_) => self.name(),
         }
     }
@@ -49,7 +51,7 @@ impl Line {
         // A call on a room judges every cell.
         let (size, done) = match self.on {
             On::Room(sizes, _) => (sizes.length() as f64, sizes.length() as f64),
-            On::NoRoom(size) => (size, 1.0),
+            On::Catalogue(size, _) | On::NoRoom(size) => (size, 1.0),
         };
         let (name, ratio, rate) = (self.name(), self.ratio(), done / register * 1000.0);
         println!("{name:<16} {size:>6} {register:>12.1} {other:>9.1} {ratio:>6.2} {rate:>11.0}");
@@ -78,6 +80,11 @@ impl Tables {
         head(title, ["ballot", "found", "Mballots/s"]);
     }
 
+    /// Begins a table of hoard lists, with how many pieces are entered.
+    pub fn lists(&self, title: &str) {
+        head(title, ["catalogue", "pieces", "Mlists/s"]);
+    }
+
     /// Prints a line and keeps it.
     pub fn line(&mut self, call: &'static str, on: On, times: Times) {
         let line = Line { call, on, times };
@@ -87,7 +94,7 @@ impl Tables {
 }
 
 fn head(title: &str, [what, size, rate]: [&str; 3]) {
-    let (register, other) = ("register ns", "other ns");
+    let (proved, other) = ("proved ns", "other ns");
     println!("\n{title}");
-    println!("{what:<16} {size:>6} {register:>12} {other:>9} {:>6} {rate:>11}", "ratio");
+    println!("{what:<16} {size:>6} {proved:>12} {other:>9} {:>6} {rate:>11}", "ratio");
 }

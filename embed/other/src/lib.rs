@@ -7,6 +7,8 @@
 //! program rehearse prints. Every refusal is a number of [`refusal`], and a
 //! refused call leaves every lent cell and byte as it was.
 //!
+//! [`hoard_list`] stands above these: it makes of a catalogue what the printer wants.
+//!
 //! [`generator`] makes runs and inputs for rehearse from a seed. It is no part
 //! of 01.
 
@@ -15,6 +17,7 @@ mod catalogue;
 mod commands;
 mod free_slots;
 pub mod generator;
+mod printing;
 mod records;
 pub mod refusal;
 mod rehearse;
@@ -26,6 +29,7 @@ pub use ballots::{least_own_above, owner, BALLOT_LIMIT};
 pub use catalogue::{catalogue, PIECES, STRUCK};
 pub use commands::{is_command, Kind, Limits, CABINETS, USUAL_LIMITS};
 pub use free_slots::{ask, put};
+pub use printing::{hoard_list, NO_PIECE};
 pub use records::{read_record, write_record, LONGEST_RECORD};
 pub use rehearse::{rehearse, INPUT_LIMIT};
 pub use room::{judge, limits_of, open, room_length, Sizes, MOST_CELLS};
