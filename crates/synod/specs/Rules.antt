@@ -33,6 +33,10 @@ Ruling = Result (Server × Answer) Refusal
 abbrev pub ruling : Rule → Ruling
 ruling = outcome
 
+-- drive d is on; off is the cell of off marks
+abbrev pub is_on : ℕ → ℕ → Bool
+is_on off d = not (stands off d)
+
 -- phase 1 or 2
 abbrev pub balloting : Server → Bool
 balloting v = eqb v.phase 1 || eqb v.phase 2
@@ -65,7 +69,7 @@ offer_rule v command = does (with_offer v command) Done
 unfoldable pub recall_rule : ℕ → Server → Block → ℕ → ℕ → Rule
 recall_rule off v b p d =
     Must (eqb v.phase 0) WrongPhase
-    (Must (not (stands off d)) DriveIsOff
+    (Must (is_on off d) DriveIsOff
     (does (recalling v b p d) Done))
 
 -- 3 Rejoin, phase 0, a majority recalled, the ballot p's and above top
@@ -89,7 +93,7 @@ bid_rule servers v p ballot =
 unfoldable pub write_rule : ℕ → Server → ℕ → Rule
 write_rule off v d =
     Must (joined v) WrongPhase
-    (Must (not (stands off d)) DriveIsOff
+    (Must (is_on off d) DriveIsOff
     (does (writing v d) Done))
 
 -- outbid by a block with the ballot found; next is the server's least ballot above it
@@ -109,7 +113,7 @@ learn_rule v b = agree_rule v b.done
 unfoldable pub read_rule : ℕ → ℕ → Server → Block → ℕ → ℕ → ℕ → Rule
 read_rule servers off v b p d q =
     Must (balloting v) WrongPhase
-    (Must (not (stands off d)) DriveIsOff
+    (Must (is_on off d) DriveIsOff
     (Must (stands v.written d) NotWritten
     (Either (not (eqb b.done 0))
     (learn_rule v b)
