@@ -8,6 +8,8 @@ pub mod AllBelow
 pub mod Sizes
 -- any two majorities share a drive
 pub mod Share
+-- a set with every drive of a majority
+pub mod Larger
 -- what a majority looks at
 pub mod Majorities
 -- the cell that a set is gathered in

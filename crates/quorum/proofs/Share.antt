@@ -39,13 +39,13 @@ member (suc n) f h =
     record { drive = m.drive; within = omega arith; holds = m.holds })
 
 -- exactly half of the drives, and drive 0 is one of them
-record Half (n : ℕ) (f : ℕ → Bool) : Type 0 where
-  exact : n ≡ 2 * size n f
-  exists : 0 < n
-  first : f 0 ≡ true
+pub record Half (n : ℕ) (f : ℕ → Bool) : Type 0 where
+  pub exact : n ≡ 2 * size n f
+  pub exists : 0 < n
+  pub first : f 0 ≡ true
 
 -- what a majority has
-counts : (n : ℕ) (f : ℕ → Bool) → majority n f ≡ true → (n < 2 * size n f) ⊎ Half n f
+pub counts : (n : ℕ) (f : ℕ → Bool) → majority n f ≡ true → (n < 2 * size n f) ⊎ Half n f
 unfolding majority
 counts n f h =
     ⊎_elim

@@ -3,6 +3,7 @@ use Prim.Native.Nat.{ℕ, zero, suc, ◌+◌, ◌/◌, ◌%◌, ◌^◌, ◌<◌
 use mathlib.Core.Path.{◌≡◌, refl, ◌∙◌, sym, ap, ap₂}
 use mathlib.Core.Bool.{Bool, true, false, ◌&&◌, cond}
 use native.Mathlib.Omega.{arith}
+use native.Mathlib.Decide.{dec_lt}
 use native.Mathlib.Nat.{mod-lt}
 use native.Mathlib.Numerals.{add-one}
 use lib.Count.{ones, ones_in, ones_cat}
@@ -33,6 +34,32 @@ size_more (suc n) f g h =
     let rest : size n f ≤ size n g = size_more n f g (λ d l. h d (omega arith)) in
     let last : cond (f n) 1 0 ≤ cond (g n) 1 0 = one_more (f n) (g n) (h n (omega arith)) in
     omega (arith, size-suc n f, size-suc n g)
+
+-- a set that lost a drive, and got none
+pub size_falls
+    : (n : ℕ) (f g : ℕ → Bool) → ((d : ℕ) → g d ≡ true → f d ≡ true) → (d : ℕ) → d < n → f d ≡ true → g d ≡ false
+    → size n g < size n f
+size_falls zero f g h d l a b = absurd (omega arith)
+size_falls (suc n) f g h d l a b = go (dec_lt d n) (size_falls n f g h d)
+  where
+    go : Dec (d < n) → (d < n → f d ≡ true → g d ≡ false → size n g < size n f) → size (suc n) g < size (suc n) f
+    go (yes k) rest = omega (arith, rest k a b, size-suc n f, size-suc n g, one_more (g n) (f n) (h n))
+    go (no k) rest =
+        let e : d ≡ n = omega arith in
+        let p : ◌≡◌ {A = ℕ} (cond (f n) 1 0) 1 = ap (λ (j : ℕ). cond {A = ℕ} (f j) 1 0) (sym e) ∙ ap (λ (t : Bool). cond {A = ℕ} t 1 0) a in
+        let q : ◌≡◌ {A = ℕ} (cond (g n) 1 0) 0 = ap (λ (j : ℕ). cond {A = ℕ} (g j) 1 0) (sym e) ∙ ap (λ (t : Bool). cond {A = ℕ} t 1 0) b in
+        omega (arith, size-suc n f, size-suc n g, size_more n g f (λ j m. h j))
+
+-- at most as many as there are; fewer where one of them is missing
+pub size_most : (n : ℕ) (f : ℕ → Bool) → size n f ≤ n
+size_most zero f = omega (arith, size-zero f)
+size_most (suc n) f =
+    let one : cond {A = ℕ} (f n) 1 0 ≤ 1 = one_more (f n) true (λ e. refl) in
+    omega (arith, size_most n f, size-suc n f)
+
+pub size_without : (n : ℕ) (f : ℕ → Bool) (d : ℕ) → d < n → f d ≡ false → size n f < n
+size_without n f d l e =
+    omega (arith, size_falls n (λ j. true) f (λ j h. refl) d l refl e, size_most n (λ j. true))
 
 -- the drives below n alone are counted
 pub size_same : (n : ℕ) (f g : ℕ → Bool) → ((d : ℕ) → d < n → f d ≡ g d) → size n f ≡ size n g
