@@ -71,7 +71,7 @@ impl Acting {
     // Whether server q's block on drive d is marked as read. The marks are a cell, which has no bit 32 or above: both numbers are
     // below 32 where they are made bytes.
     #[tactic(auto, using(quorum::proofs::MarkLaws::stands_beyond))]
-    fn was_read(self, d: u32, q: u32) -> bool
+    pub fn was_read(self, d: u32, q: u32) -> bool
         ensures { result ≡ stands self.record.read (read_bit d q) }
     {
         d < 32 && q < 32 && has_mark(self.record.read, read_bit(d as u8, q as u8))

@@ -2,6 +2,7 @@
 ghost use Rattle.std.specs.Prelude.{◌≡◌, ◌<◌, true};
 ghost use Rattle.synod.specs.Arguments.{places_fit};
 ghost use Rattle.checks.specs.Checks.{mapped};
+ghost use Rattle.range.specs.Range.{in_range};
 ghost use Rattle.layout.specs.Cells.{off_of, server_of};
 ghost use Rattle.room.specs.Judge.{recording, effect_of, judged, answer_of};
 
@@ -47,18 +48,27 @@ impl Effect {
 }
 
 // Judges a step on a row: the room, the step's numbers, then the rule of its kind. Nothing is stored.
-#[tactic(auto, using(crate::proofs::Checks::refused_3, crate::proofs::Checks::refused_4, crate::proofs::Checks::refused_5, crate::proofs::Checks::passed))]
+#[tactic(auto, using(crate::proofs::Checks::refused_3))]
 pub fn judge(room: &[u32], step: Step) -> Result<Effect, Refusal>
     ensures { result ≡ judged room.now step }
 {
     let room = range::room_in(room)?;
+    judge_in(&room, step)
+}
+
+// Judges a step on a room that is known to be in range.
+#[tactic(auto, using(crate::proofs::Checks::refused_4, crate::proofs::Checks::refused_5, crate::proofs::Checks::passed))]
+pub fn judge_in(room: &Room, step: Step) -> Result<Effect, Refusal>
+    requires { in_range room.now.cells.now ≡ true }
+    ensures { result ≡ judged room.now.cells.now step }
+{
     if !arguments::places_fit(room.sizes, step) {
         return Err(Refusal::BeyondRoom);
     }
     if !arguments::command_fits(&room.limits(), step) {
         return Err(Refusal::NoCommand);
     }
-    rule(&room, step)
+    rule(room, step)
 }
 
 // The rule of the step's kind, on the server and the block that it names. A match on the enum of steps is a form that the project
@@ -101,7 +111,7 @@ fn rule(room: &Room, step: Step) -> Result<Effect, Refusal>
 }
 
 // Server p as it acts in slot s.
-fn acting(room: &Room, s: u8, p: u8) -> Acting
+pub fn acting(room: &Room, s: u8, p: u8) -> Acting
     requires { (s < room.now.sizes.slots) × (p < room.now.sizes.servers) }
     ensures { (result.record ≡ server_of room.now.sizes room.now.cells.now s p) × (result.server ≡ p) × (result.sizes ≡ room.now.sizes) × (result.off ≡ off_of room.now.cells.now) }
 {
