@@ -1,5 +1,5 @@
--- Laws of the whole step, for every row: what it refuses, which kind commits, that it keeps a room in range, and what it
--- leaves alone.
+-- Laws of the whole step, for every row: what it refuses, what one that fits answers, which kind commits, that it keeps a room
+-- in range, what it leaves alone, and that only a drive step changes the off marks.
 pub mod Slots
 pub mod RulesKeep
 pub mod StoresKeep
@@ -10,3 +10,5 @@ pub mod Lowest
 pub mod Answering
 pub mod Commits
 pub mod Frame
+pub mod OffMarks
+pub mod ByRule

@@ -105,7 +105,7 @@ module _ (z : Sizes) (r : List ℕ) (row : Row z r) where
       record { own = sym (server_after_off z r row m t q); disk = λ d k. sym (block_after_off z r row m t d q) }
 
   -- a failure below slot k
-  fail_row : (p k : ℕ) → Row z (failed_below z p k r)
+  pub fail_row : (p k : ℕ) → Row z (failed_below z p k r)
   unfolding failed_below
   fail_row p zero = row
   fail_row p (suc k) = server_row z (failed_below z p k r) (fail_row p k) k p failed
