@@ -22,8 +22,8 @@ if nm -u "$printing" | grep ' U '; then
     exit 1
 fi
 mkdir -p target
-examples='example example_limits example_printing'
-tests='test test_free_slots test_learning test_limits test_printing'
+examples='example example_limits example_next example_printing'
+tests='test test_free_slots test_learning test_limits test_next test_next_refusals test_printing'
 warnings='-Wall -Wextra -Wpedantic -Wconversion -Wsign-conversion -Wshadow -Werror'
 for program in $examples $tests; do
     # A test of one header has its library alone, so that it is seen that it needs no other.

@@ -42,7 +42,8 @@ extern "C" {
 #define REGISTER_NUMBER(answer) ((uint32_t)(answer))
 
 /* The refusals: the number of an answer whose word is refused. Of those that apply the
- * lowest is given; a record has an order of its own. */
+ * lowest is given; a record has an order of its own, and register_next looks at the length
+ * last. */
 #define REGISTER_E_SIZES 1u
 #define REGISTER_E_LENGTH 2u
 #define REGISTER_E_CELLS 3u
@@ -61,6 +62,7 @@ extern "C" {
 #define REGISTER_E_NOT_FREE 16u
 #define REGISTER_E_NO_FREE_SLOT 17u
 #define REGISTER_E_LIMITS 18u
+#define REGISTER_E_NO_MAJORITY_ON 19u
 
 /* A sentence for a refusal, "unknown refusal" for any other number. */
 static inline const char *register_message(uint32_t refusal)
@@ -102,6 +104,8 @@ static inline const char *register_message(uint32_t refusal)
         return "no slot is free for the server";
     case REGISTER_E_LIMITS:
         return "the limit of a cabinet is not 1 to 255";
+    case REGISTER_E_NO_MAJORITY_ON:
+        return "the on drives form no majority (half of them counts only with drive 0)";
     default:
         return "unknown refusal";
     }
@@ -212,6 +216,25 @@ uint64_t register_ask(const uint32_t *room, size_t cells, uint32_t server);
  * The slot that its register_ask named is free until another call on the room. The answer
  * is 0, or refused with 3, 4, 5 or 16. */
 uint64_t register_put(uint32_t *room, size_t cells, uint32_t server, uint32_t slot, uint32_t command);
+
+/* Writes the record of the server's next step in the slot to `bytes`, of which there are
+ * `length`, and leaves later bytes alone; 8 bytes are always enough. No cell changes. The
+ * step is for a server that acts alone: it uses the first drives that are on up to a majority,
+ * and the least ballot that it may have. In phase 0 it recalls these drives, then rejoins; in
+ * phases 1 and 2 it writes each in turn and reads the others there, then finishes. What is
+ * already marked is passed over.
+ *
+ * The answer's word is done and its number the length of the record, or 0 where there is no
+ * next step: in phase 3, where the step would be refused, or where no ballot is left. It is
+ * refused with 3, 4 or 19, and at last with 2 where there is a step and its record does not
+ * fit.
+ *
+ * A server that has just failed and then offered a command in the slot commits within
+ * 3 + m + 2mN + m*m*N*(N-1) of these steps, where N is the number of servers and m that of the
+ * drives used, if the drives that are on are a majority, no mbal on the slot's blocks is above
+ * 999,990, no other server steps and no drive is switched. */
+uint64_t register_next(const uint32_t *room, size_t cells, uint32_t server, uint32_t slot, uint8_t *bytes,
+                       size_t length);
 
 /* Writes what one server knows to `out`, of which there are `length` cells, which must
  * be 64: each piece's hoard, 0 for a piece that has none, REGISTER_STRUCK for one that

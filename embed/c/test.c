@@ -22,14 +22,14 @@ static void commands(void)
 
 static void messages(void)
 {
-    for (uint32_t refusal = 1; refusal <= 18; refusal++) {
+    for (uint32_t refusal = 1; refusal <= 19; refusal++) {
         CHECK(strlen(register_message(refusal)) > 10);
         CHECK(strcmp(register_message(refusal), "unknown refusal") != 0);
         for (uint32_t lower = 1; lower < refusal; lower++)
             CHECK(strcmp(register_message(refusal), register_message(lower)) != 0);
     }
     CHECK(strcmp(register_message(0), "unknown refusal") == 0);
-    CHECK(strcmp(register_message(19), "unknown refusal") == 0);
+    CHECK(strcmp(register_message(20), "unknown refusal") == 0);
     CHECK(strcmp(register_message(UINT32_MAX), "unknown refusal") == 0);
 }
 

@@ -6,7 +6,7 @@ use native.Mathlib.Omega.{arith}
 use lib.ListN.{get_or}
 use Rattle.std.specs.Prelude.{Result, Ok, Err}
 use Rattle.checks.specs.declared.Refusal.{Refusal}
-use Rattle.checks.specs.declared.Refusal.TheVariants.{SizesUnfit, WrongLength, OutOfRange, BeyondRoom, NoCommand, NotOwnBallot, WrongPhase, DriveIsOff, NotWritten, NoMajority, BallotTooLow, NothingToTry, BallotsSpent, CutShort, Malformed, SlotNotFree, NoSlotFree, LimitsUnfit}
+use Rattle.checks.specs.declared.Refusal.TheVariants.{SizesUnfit, WrongLength, OutOfRange, BeyondRoom, NoCommand, NotOwnBallot, WrongPhase, DriveIsOff, NotWritten, NoMajority, BallotTooLow, NothingToTry, BallotsSpent, CutShort, Malformed, SlotNotFree, NoSlotFree, LimitsUnfit, OnDrivesTooFew}
 use Rattle.checks.specs.Refusals.{refusal_number, refusal_in}
 
 -- the refusal with this number; for a number that none has, the first
@@ -32,6 +32,7 @@ refusal_at n =
     ∷ SlotNotFree
     ∷ NoSlotFree
     ∷ LimitsUnfit
+    ∷ OnDrivesTooFew
     ∷ [])
     n SizesUnfit
 
@@ -54,6 +55,7 @@ at_number Malformed = refl
 at_number SlotNotFree = refl
 at_number NoSlotFree = refl
 at_number LimitsUnfit = refl
+at_number OnDrivesTooFew = refl
 
 pub one_number : (r s : Refusal) → refusal_number r ≡ refusal_number s → r ≡ s
 one_number r s e = sym (at_number r) ∙ ap refusal_at e ∙ at_number s
@@ -77,6 +79,7 @@ number_positive Malformed = omega arith
 number_positive SlotNotFree = omega arith
 number_positive NoSlotFree = omega arith
 number_positive LimitsUnfit = omega arith
+number_positive OnDrivesTooFew = omega arith
 
 -- the number tells the refusal
 pub refused_is : {A : Type 0} (x : Result A Refusal) (r : Refusal) → refusal_in x ≡ refusal_number r → x ≡ Err r

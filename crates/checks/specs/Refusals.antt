@@ -2,7 +2,7 @@
 -- each applies, read off its checks.
 use Rattle.std.specs.Prelude.{ℕ, Bool, true, not, ◌&&◌, cond, List, [], ◌∷◌, ltb, Result, Ok, Err}
 use Rattle.checks.specs.declared.Refusal.{Refusal}
-use Rattle.checks.specs.declared.Refusal.TheVariants.{SizesUnfit, WrongLength, OutOfRange, BeyondRoom, NoCommand, NotOwnBallot, WrongPhase, DriveIsOff, NotWritten, NoMajority, BallotTooLow, NothingToTry, BallotsSpent, CutShort, Malformed, SlotNotFree, NoSlotFree, LimitsUnfit}
+use Rattle.checks.specs.declared.Refusal.TheVariants.{SizesUnfit, WrongLength, OutOfRange, BeyondRoom, NoCommand, NotOwnBallot, WrongPhase, DriveIsOff, NotWritten, NoMajority, BallotTooLow, NothingToTry, BallotsSpent, CutShort, Malformed, SlotNotFree, NoSlotFree, LimitsUnfit, OnDrivesTooFew}
 use Rattle.checks.specs.Checks.{Checked, Must, Either, Gives}
 
 abbrev pub refusal_number : Refusal → ℕ
@@ -24,6 +24,7 @@ refusal_number Malformed = 15
 refusal_number SlotNotFree = 16
 refusal_number NoSlotFree = 17
 refusal_number LimitsUnfit = 18
+refusal_number OnDrivesTooFew = 19
 
 -- the number of what a call answers: 0 where it is accepted
 abbrev pub refusal_in : {A : Type 0} → Result A Refusal → ℕ

@@ -43,6 +43,8 @@ pub enum Refusal {
     NoSlotFree = 17,
     // A limit of a cabinet outside 1 to 255.
     LimitsUnfit = 18,
+    // The drives that are on are no majority.
+    OnDrivesTooFew = 19,
 }
 
 impl Refusal {

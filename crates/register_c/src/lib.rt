@@ -10,13 +10,14 @@ ghost use Rattle.checks.specs.Refusals.{refusal_in};
 ghost use Rattle.room.specs.Open.{opening, opened};
 ghost use Rattle.free_slots.specs.Ask.{asked};
 ghost use Rattle.free_slots.specs.Put.{put_answered, put_cells};
+ghost use Rattle.progress.specs.Next.{next_answered};
 ghost use Rattle.record.specs.Fields.{fields};
 ghost use Rattle.record.specs.Read.{reading_of};
 ghost use Rattle.record.specs.Write.{writing_from, written_from};
 ghost use Rattle.catalogue.specs.Call.{catalogue_of, catalogue_cells};
 ghost use Rattle.packing.specs.Packing.{packed_number};
 ghost use Rattle.register_c.specs.Packing.{packed_answer, packed_listing, packed_reading};
-ghost use Rattle.register_c.specs.Calls.{record_answered, record_stepped, fields_reading, fields_read};
+ghost use Rattle.register_c.specs.Calls.{record_answered, record_stepped, next_writing, next_written, fields_reading, fields_read};
 
 use packing::{pack, word};
 use register::{Fields, Limits, Refusal};
@@ -105,6 +106,15 @@ pub extern "C" fn register_put(room: &mut [u32], server: u32, slot: u32, command
     answer_word(register::put(room, server, slot, command))
 }
 
+// Writes the record of the server's next step in a slot: the length used, 0 where there is no step.
+#[unsafe(no_mangle)]
+pub extern "C" fn register_next(room: &[u32], server: u32, slot: u32, bytes: &mut [u8]) -> u64
+    ensures answer { result ≡ packed_number (next_writing (next_answered room.now server slot) bytes.old) }
+    ensures bytes { bytes.new ≡ next_written (next_answered room.now server slot) bytes.old }
+{
+    word(write_next(room, server, slot, bytes).map(|used| used as u64))
+}
+
 // Writes the catalogue of one server.
 #[unsafe(no_mangle)]
 pub extern "C" fn register_catalogue(room: &[u32], server: u32, cells: &mut [u32]) -> u64
@@ -172,6 +182,17 @@ fn take_record(room: &mut [u32], bytes: &[u8]) -> Result<Answer, Refusal>
 {
     let (step, _) = register::read_record(bytes)?;
     register::step(room, step)
+}
+
+// Writes the record of the next step, where there is one.
+fn write_next(room: &[u32], server: u32, slot: u32, bytes: &mut [u8]) -> Result<usize, Refusal>
+    ensures answer { result ≡ next_writing (next_answered room.now server slot) bytes.old }
+    ensures bytes { bytes.new ≡ next_written (next_answered room.now server slot) bytes.old }
+{
+    match register::next(room, server, slot)? {
+        Some(step) => register::write_record(step, bytes),
+        None => Ok(0),
+    }
 }
 
 // Stores the kind and the fields of a record, each in its cell, and answers the length used. Cell by cell and no From: C alone

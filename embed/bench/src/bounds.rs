@@ -5,10 +5,11 @@ use other::MOST_CELLS;
 use crate::tables::{Line, On};
 
 /// The largest ratio that each call may have, on the largest room where it takes one.
-const BOUNDS: [(&str, f64); 7] = [
+const BOUNDS: [(&str, f64); 8] = [
     ("step", 0.80),
     ("ask, put", 0.80),
     ("catalogue", 0.80),
+    ("next", 1.00),
     ("read", 1.00),
     ("write", 1.40),
     ("in turn", 0.80),

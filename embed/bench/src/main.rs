@@ -24,6 +24,7 @@ fn main() {
     steps(&mut tables, sizes);
     asks_and_puts(&mut tables, sizes);
     catalogues(&mut tables, sizes);
+    next_steps(&mut tables, sizes);
     tables.records("Step records, one of each kind in turn");
     let records = rooms::one_of_each();
     let bytes = records.iter().map(Vec::len).sum::<usize>() as f64 / records.len() as f64;
@@ -74,6 +75,25 @@ fn catalogues(tables: &mut Tables, sizes: [Sizes; 4]) {
         ];
         for (state, room) in states {
             tables.line("catalogue", On::Room(sizes, state), measure::catalogue(room));
+        }
+    }
+}
+
+/// In one room the next steps are of one kind: a Recall, a Rejoin, a Read (a Finish where there
+/// is one server), a Finish; in a filled room there is none, and after a run they are any.
+fn next_steps(tables: &mut Tables, sizes: [Sizes; 4]) {
+    tables.rooms("The record of the next step, of each server in each slot in turn");
+    for sizes in sizes {
+        let states = [
+            ("empty", rooms::empty(sizes).room),
+            ("recalled", rooms::in_phase(sizes, 0)),
+            ("phase 1", rooms::in_phase(sizes, 1)),
+            ("phase 2", rooms::in_phase(sizes, 2)),
+            ("filled", rooms::filled(sizes).room),
+            ("run", rooms::run(sizes).last),
+        ];
+        for (state, room) in states {
+            tables.line("next", On::Room(sizes, state), measure::next(room, sizes));
         }
     }
 }

@@ -127,6 +127,44 @@ pub fn catalogue(room: Vec<u32>) -> Times {
     times
 }
 
+/// The record of the next step of each server in each slot.
+pub fn next(room: Vec<u32>, sizes: Sizes) -> Times {
+    let mine = Room::over(room.clone());
+    let mut records = vec![[0; other::LONGEST_RECORD]; sizes.servers * sizes.slots];
+    let mut their_records = records.clone();
+    let times = side_by_side(
+        ROUNDS,
+        CALLS,
+        || {
+            each_place(sizes, &mut records, |server, slot, record| {
+                _ = black_box(black_box(&mine).next_record(server, slot, record))
+                    .expect("a majority is on");
+            })
+        },
+        || {
+            each_place(sizes, &mut their_records, |server, slot, record| {
+                _ = black_box(other::next_record(black_box(&room), server, slot, record))
+                    .expect("a majority is on");
+            })
+        },
+    );
+    assert_eq!(records, their_records, "the records differ");
+    times
+}
+
+/// Does the work for each server in each slot in turn, with bytes of its own, until all calls
+/// of a round are made.
+fn each_place<T>(sizes: Sizes, values: &mut [T], mut work: impl FnMut(u32, u32, &mut T)) {
+    let (mut server, mut slot) = (0, 0);
+    for _ in 0..CALLS {
+        work(server as u32, slot as u32, &mut values[slot * sizes.servers + server]);
+        server += 1;
+        if server == sizes.servers {
+            (server, slot) = (0, (slot + 1) % sizes.slots);
+        }
+    }
+}
+
 /// Records read.
 pub fn reading(records: &[Vec<u8>]) -> Times {
     side_by_side(

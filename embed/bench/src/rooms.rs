@@ -1,7 +1,7 @@
 //! The rooms and the steps that are timed.
 
 use other::generator::{Chance, Driver, Habits};
-use other::{least_own_above, Limits, Sizes, USUAL_LIMITS};
+use other::{least_own_above, used_drives, Limits, Sizes, BALLOT_LIMIT, USUAL_LIMITS};
 
 /// A room and records of steps that all are accepted in it, in any order.
 pub struct Work {
@@ -36,6 +36,35 @@ pub fn filled(sizes: Sizes) -> Work {
 /// The same in a room with other limits.
 pub fn limited(sizes: Sizes) -> Work {
     filled_by(sizes, &OWN_LIMITS)
+}
+
+/// A room in which each server is in this phase, 0 to 2, in each slot, and has an offer there.
+/// On the drives that it uses all is marked, but for its last Read in phase 1: it rejoins next
+/// in phase 0, reads in phase 1, finishes in phase 2. Where there is one server, there is no
+/// Read, and it finishes in phase 1 too.
+pub fn in_phase(sizes: Sizes, phase: u32) -> Vec<u32> {
+    let mut room = opened(sizes, &USUAL_LIMITS);
+    let mut chance = Chance::new(7);
+    let used = used_drives(0, sizes.drives).expect("every drive is on");
+    let drives = used.count_ones() as usize;
+    for slot in 0..sizes.slots {
+        for server in 0..sizes.servers {
+            let at = sizes.server_at(slot, server);
+            let others = (0..sizes.servers).filter(|&other| (other == server) == (phase == 0));
+            let mut marks: Vec<usize> =
+                others.flat_map(|other| (0..drives).map(move |drive| 4 * drive + other)).collect();
+            marks.sort_unstable();
+            if phase == 1 {
+                marks.pop();
+            }
+            room[at] = phase;
+            room[at + 1] = if phase == 0 { 0 } else { BALLOT_LIMIT };
+            room[at + 4] = command(&mut chance, &USUAL_LIMITS);
+            room[at + 8] = if phase == 0 { 0 } else { used };
+            room[at + 9] = marks.iter().map(|mark| 1 << mark).sum();
+        }
+    }
+    room
 }
 
 fn filled_by(sizes: Sizes, limits: &Limits) -> Work {

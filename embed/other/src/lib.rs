@@ -2,7 +2,7 @@
 //! landed. It was written from these papers and not from the Rattle code, and
 //! is used to check and to time the register.
 //!
-//! The calls are [`open`], [`step`], [`ask`], [`put`], [`catalogue`],
+//! The calls are [`open`], [`step`], [`ask`], [`put`], [`next`], [`catalogue`],
 //! [`read_record`] and [`write_record`]. [`rehearse`] gives the bytes that the
 //! program rehearse prints. Every refusal is a number of [`refusal`], and a
 //! refused call leaves every lent cell and byte as it was.
@@ -17,6 +17,7 @@ mod catalogue;
 mod commands;
 mod free_slots;
 pub mod generator;
+mod next;
 mod printing;
 mod records;
 pub mod refusal;
@@ -29,6 +30,7 @@ pub use ballots::{least_own_above, owner, BALLOT_LIMIT};
 pub use catalogue::{catalogue, PIECES, STRUCK};
 pub use commands::{is_command, Kind, Limits, CABINETS, USUAL_LIMITS};
 pub use free_slots::{ask, put};
+pub use next::{most_steps, next, next_record, used_drives};
 pub use printing::{hoard_list, NO_PIECE};
 pub use records::{read_record, write_record, LONGEST_RECORD};
 pub use rehearse::{rehearse, INPUT_LIMIT};

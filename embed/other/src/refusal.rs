@@ -36,3 +36,5 @@ pub const NOT_FREE: u32 = 16;
 pub const NO_FREE_SLOT: u32 = 17;
 /// A limit of a cabinet outside 1 to 255.
 pub const LIMITS: u32 = 18;
+/// The drives that are on form no majority.
+pub const NO_MAJORITY_ON: u32 = 19;

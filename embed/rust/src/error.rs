@@ -53,12 +53,14 @@ pub enum Error {
     NoFreeSlot,
     /// 18: the limit of a cabinet is not 1 to 255.
     Limits,
+    /// 19: the drives that are on form no majority.
+    NoMajorityOn,
     /// A number that the register does not give.
     Unknown(u32),
 }
 
 /// Each refusal with its number and its text.
-const TEXTS: [(Error, &str); 18] = [
+const TEXTS: [(Error, &str); 19] = [
     (Error::Sizes, "the sizes fit no room: 1 to 4 servers, 1 to 7 drives, 1 to 16 slots"),
     (Error::Length, "the length of the lent cells or bytes is wrong"),
     (Error::Cells, "the lent row is no room, or a cell of it is out of range"),
@@ -83,6 +85,10 @@ const TEXTS: [(Error, &str); 18] = [
     (Error::NotFree, "the slot is not free: the server offers a command there or has settled it"),
     (Error::NoFreeSlot, "no slot is free for the server"),
     (Error::Limits, "the limit of a cabinet is not 1 to 255"),
+    (
+        Error::NoMajorityOn,
+        "the on drives form no majority (half of them counts only with drive 0)",
+    ),
 ];
 
 impl Error {

@@ -4,9 +4,10 @@
 //! A [`Room`] is a row of cells. [`Room::step`] takes one [`Step`] in it and
 //! answers with an [`Answer`], [`Room::catalogue`] gives what one server knows of
 //! the pieces. [`Room::ask`] names the slot that a server can fill next, and
-//! [`Room::put`] offers a command there. Every call judges every cell first, so that
-//! a row from anywhere can be lent; a call that is refused with an [`Error`] changes
-//! nothing.
+//! [`Room::put`] offers a command there. [`Room::next`] gives the step that a server
+//! on its own takes next, and [`Room::settle`] follows such steps. Every call judges
+//! every cell first, so that a row from anywhere can be lent; a call that is refused
+//! with an [`Error`] changes nothing.
 //!
 //! ```
 //! use register::{Answer, Command, Entry, Room, Step};
@@ -73,7 +74,27 @@
 //! # Ok(())
 //! # }
 //! ```
+//!
+//! A server that is the only one awake gets through by itself.
+//!
+//! ```
+//! use register::{Command, Room, Step};
+//!
+//! # fn main() -> Result<(), register::Error> {
+//! let mut room = Room::open(4, 5, 16)?;
+//! room.step(Step::DriveOff { drive: 1 })?;
+//! room.step(Step::DriveOff { drive: 3 })?;
+//! for entry in [Command::enter(5, 9)?, Command::enter(40, 31)?, Command::move_to(5, 12)?] {
+//!     let slot = room.ask(2)?;
+//!     room.put(2, slot, entry.number())?;
+//!     assert_eq!(room.settle(2, slot)?, Some(entry.number()));
+//! }
+//! assert_eq!(room.catalogue(2)?.taken, 3);
+//! # Ok(())
+//! # }
+//! ```
 
+mod alone;
 mod catalogue;
 mod cells;
 mod command;

@@ -24,6 +24,14 @@ mod library {
             slot: u32,
             command: u32,
         ) -> u64;
+        pub fn register_next(
+            room: *const u32,
+            cells: usize,
+            server: u32,
+            slot: u32,
+            bytes: *mut u8,
+            length: usize,
+        ) -> u64;
         pub fn register_catalogue(
             room: *const u32,
             cells: usize,
@@ -136,6 +144,22 @@ pub(crate) fn put(room: &mut [u32], server: u32, slot: u32, command: u32) -> Res
     let answer =
         unsafe { library::register_put(room.as_mut_ptr(), room.len(), server, slot, command) };
     accepted(answer).map(|_| ())
+}
+
+/// Writes the record of the next step; the length used, 0 where there is none.
+pub(crate) fn next(room: &[u32], server: u32, slot: u32, bytes: &mut [u8]) -> Result<usize, Error> {
+    // SAFETY: the pointers and the lengths are those of two slices.
+    let answer = unsafe {
+        library::register_next(
+            room.as_ptr(),
+            room.len(),
+            server,
+            slot,
+            bytes.as_mut_ptr(),
+            bytes.len(),
+        )
+    };
+    accepted(answer).map(|used| used as usize)
 }
 
 /// How many commands were taken, and how many of these were skipped.

@@ -38,7 +38,7 @@ pub fn room_length(servers: u32, drives: u32, slots: u32) -> Option<usize> {
 /// ```
 #[derive(Clone, Debug, PartialEq, Eq)]
 pub struct Room<R = Vec<u32>> {
-    row: R,
+    pub(crate) row: R,
 }
 
 impl<R> Room<R> {

@@ -68,7 +68,7 @@ fn each_is_met() {
         refusal(bidding(1), Step::Offer { server, slot, command: 81_725 }),
         refusal(bidding(1), Step::Bid { server, slot, ballot: 2 }),
         refusal(bidding(1), Step::Recall { server, slot, drive }),
-        refusal(off, Step::Write { server, slot, drive }),
+        refusal(off.clone(), Step::Write { server, slot, drive }),
         refusal(bidding(1), read),
         refusal(bidding(1), finish),
         refusal(bidding(3), Step::Bid { server, slot, ballot: 3 }),
@@ -79,6 +79,7 @@ fn each_is_met() {
         put_refusal(&mut full, 0, 0, COIN),
         full.ask(0).expect_err("the one slot has an offer"),
         Room::open_with(1, 1, 1, Limits::of([0; 8])).expect_err("no cabinet has a hoard"),
+        off.next(0, 0).expect_err("the one drive is off"),
     ];
     for (place, error) in met.into_iter().enumerate() {
         assert_eq!(error.number(), place as u32 + 1, "{error}");
@@ -88,9 +89,9 @@ fn each_is_met() {
 
 #[test]
 fn each_has_a_text_of_its_own() {
-    let texts: BTreeSet<String> = (1..=18).map(|number| Error::of(number).to_string()).collect();
-    assert_eq!(texts.len(), 18);
-    for number in 1..=18 {
+    let texts: BTreeSet<String> = (1..=19).map(|number| Error::of(number).to_string()).collect();
+    assert_eq!(texts.len(), 19);
+    for number in 1..=19 {
         assert!(Error::of(number).to_string().ends_with(&format!(" (refusal {number})")));
     }
     assert_eq!(Error::of(0), Error::Unknown(0));

@@ -1,12 +1,14 @@
 //! The register beside the other implementation. Each call is made of both; the
 //! answers, and every lent cell and byte, are compared after it. After a refused
-//! call, and after an Ask, they are compared with what they were before.
+//! call, an Ask and a next they are compared with what they were before.
 
 pub mod hostile;
 mod pair;
+mod planned;
 mod same;
 
 pub use pair::Pair;
+pub use planned::{look, used, Look};
 pub use same::{answer, record_read, record_written, register_step};
 
 use other::Sizes;

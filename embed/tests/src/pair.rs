@@ -101,6 +101,24 @@ impl Pair {
         theirs
     }
 
+    /// The next step of a server, and its record in so many bytes that hold other
+    /// values. Every cell stays, and every byte beyond the record.
+    pub fn next(&mut self, server: u32, slot: u32, length: usize) -> Result<Option<Step>, u32> {
+        let step = other::next(&self.theirs, server, slot);
+        let mine = self.mine.next(server, slot).map_err(Error::number);
+        assert_eq!(mine, step.map(|step| step.map(register_step)), "next of {server} in {slot}");
+        let old: Vec<u8> = (0..length as u8).map(|place| place ^ 0x55).collect();
+        let (mut my_bytes, mut their_bytes) = (old.clone(), old.clone());
+        let theirs = other::next_record(&self.theirs, server, slot, &mut their_bytes);
+        let mine = self.mine.next_record(server, slot, &mut my_bytes).map_err(Error::number);
+        assert_eq!(mine, theirs, "next of {server} in {slot}, in {length} bytes");
+        assert_eq!(my_bytes, their_bytes, "bytes of the next step of {server} in {slot}");
+        let used = theirs.ok().flatten().unwrap_or(0);
+        assert_eq!(my_bytes[used..], old[used..], "bytes beyond the next step of {server}");
+        self.compare(true, ("next", server, slot));
+        step
+    }
+
     /// Makes a call of a run.
     pub fn call(&mut self, call: Call) -> Reply {
         match call {
@@ -124,8 +142,8 @@ impl Pair {
         theirs
     }
 
-    /// Compares every cell. After a refusal or an Ask the cells are compared with
-    /// those before it, which it keeps; no call keeps less than the limits.
+    /// Compares every cell. After a refusal, an Ask or a next the cells are compared
+    /// with those before it, which it keeps; no call keeps less than the limits.
     fn compare(&mut self, kept: bool, call: impl std::fmt::Debug) {
         assert!(
             self.mine.cells() == self.theirs,

@@ -18,7 +18,7 @@ const COIN: u32 = 66_817;
 /// Commands of every room, or of some, and numbers that are none.
 const COMMANDS: [u32; 8] = [COIN, 81_724, 147_260, 196_608, 0, 81_725, 196_609, u32::MAX];
 
-/// Numbers beyond every room; the last byte of most is not.
+/// Numbers beyond every room; the last byte of half of them is not.
 const BEYOND: [u32; 6] = [16, 255, 256, 65_537, 1 << 31, u32::MAX];
 
 /// How often each call was answered so: its name, with the number of a refusal.

@@ -104,6 +104,7 @@ fn one_cell_spoiled() {
                 refused += u32::from(pair.step(step) == Answer::Refused(3));
                 let _ = pair.catalogue(chance.below(servers as u32), 64);
                 let _ = pair.ask(chance.below(servers as u32));
+                let _ = pair.next(chance.below(servers as u32), chance.below(slots as u32), 8);
                 let _ = pair.put(chance.below(servers as u32), chance.below(slots as u32), COIN);
                 restore(&mut pair, &kept);
             }
@@ -156,6 +157,7 @@ fn wrong_length(chance: &mut Chance, length: usize) {
         assert_eq!(pair.step(other::Step::DriveOff { drive: 0 }) == refused, !fits);
         assert_eq!(pair.catalogue(0, 64).is_err(), !fits);
         assert_eq!(pair.ask(0), if fits { Ok(0) } else { Err(3) });
+        assert_eq!(pair.next(0, 0, 8) == Err(3), !fits);
         let put = if is_command(COIN, &limits) { Ok(()) } else { Err(5) };
         assert_eq!(pair.put(0, 0, COIN), if fits { put } else { Err(3) });
     }

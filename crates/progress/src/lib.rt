@@ -1,0 +1,2 @@
+// A server on its own gets through; there is no code here.
+#![tactic(auto)]
