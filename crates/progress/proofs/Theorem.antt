@@ -31,7 +31,7 @@ use Rattle.step_laws.proofs.ByRule.{answered_by_rule}
 use Rattle.step_laws.proofs.StepKeeps.{step_in_range, step_limits}
 use Rattle.synod.specs.Rules.{is_on}
 use Rattle.progress.specs.Used.{used_drives}
-use Rattle.progress.specs.Follow.{after_offer, bound, room_bound}
+use Rattle.progress.specs.Follow.{fail_then_offer, bound, room_bound}
 use Rattle.progress.specs.Promise.{Low, GetsThrough, OnItsOwn}
 use Rattle.progress.proofs.Potential.{pairs, remaining, potential, potential_in, missing_most, outbidding, outbidding_most}
 use Rattle.progress.proofs.Good.{Matches, in_0, record_becomes, record_matches}
@@ -83,7 +83,7 @@ module _ (cells : List ℕ) (p s v : ℕ) (i : in_range cells ≡ true) (lp : p 
   lost = stepped cells (Fail p)
 
   abbrev ready : List ℕ
-  ready = after_offer cells p s v
+  ready = fail_then_offer cells p s v
 
   -- the record then
   abbrev w : Server

@@ -10,8 +10,8 @@ use Rattle.progress.specs.Used.{used_drives}
 use Rattle.progress.specs.Next.{next_answered}
 
 -- the room in which server p begins: it has just failed and then offered v in slot s
-abbrev pub after_offer : List ℕ → ℕ → ℕ → ℕ → List ℕ
-after_offer cells p s v = stepped (stepped cells (Fail p)) (Offer p s v)
+abbrev pub fail_then_offer : List ℕ → ℕ → ℕ → ℕ → List ℕ
+fail_then_offer cells p s v = stepped (stepped cells (Fail p)) (Offer p s v)
 
 -- the step that next gives is taken: it is answered committed, or what follows is
 abbrev pub followed : List ℕ → (List ℕ → Bool) → Result (Option Step) Refusal → Bool

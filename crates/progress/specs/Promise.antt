@@ -8,7 +8,7 @@ use Rattle.layout.specs.Cells.{sizes_of, limits_of, off_of, block_of}
 use Rattle.range.specs.Range.{in_range}
 use Rattle.room.specs.Step.{answered, stepped}
 use Rattle.synod.specs.Rules.{is_on}
-use Rattle.progress.specs.Follow.{low_mbal, after_offer, commits_within, room_bound}
+use Rattle.progress.specs.Follow.{low_mbal, fail_then_offer, commits_within, room_bound}
 
 -- no mbal on the blocks of slot s exceeds 999,990
 abbrev pub Low : List ℕ → ℕ → Type 0
@@ -20,7 +20,7 @@ Low cells s =
 pub record GetsThrough (cells : List ℕ) (p s v : ℕ) : Type 0 where
   pub fails : answered cells (Fail p) ≡ Ok Done
   pub offers : answered (stepped cells (Fail p)) (Offer p s v) ≡ Ok Done
-  pub commits : commits_within (room_bound cells) (after_offer cells p s v) p s ≡ true
+  pub commits : commits_within (room_bound cells) (fail_then_offer cells p s v) p s ≡ true
 
 -- every room in range, every server and slot of it, every command, if the on drives are a majority and the mbals are low
 abbrev pub OnItsOwn : Type 0

@@ -8,7 +8,7 @@ use Rattle.state.specs.Block.{block}
 use Rattle.state.specs.Sizes.{sizes}
 use Rattle.layout.specs.Cells.{sizes_of, limits_of, off_of, put_block}
 use Rattle.range.specs.Range.{in_range}
-use Rattle.progress.specs.Follow.{low_mbal, after_offer, commits_within, room_bound}
+use Rattle.progress.specs.Follow.{low_mbal, fail_then_offer, commits_within, room_bound}
 use Rattle.progress.specs.Promise.{Low}
 use Rattle.starred.specs.Runs.{new_room}
 use Rattle.witness.specs.Runs.{museum_limits, enter5}
@@ -27,5 +27,5 @@ pub record Exactly (n : ℕ) (cells : List ℕ) : Type 0 where
   pub most : majority (sizes_of cells).drives (is_on (off_of cells)) ≡ true
   pub low : Low cells 0
   pub bound : room_bound cells ≡ n
-  pub commits : commits_within n (after_offer cells 0 0 enter5) 0 0 ≡ true
-  pub not_before : commits_within (n - 1) (after_offer cells 0 0 enter5) 0 0 ≡ false
+  pub commits : commits_within n (fail_then_offer cells 0 0 enter5) 0 0 ≡ true
+  pub not_before : commits_within (n - 1) (fail_then_offer cells 0 0 enter5) 0 0 ≡ false
