@@ -5,7 +5,7 @@ use std::env;
 use std::fs;
 use std::io::{BufRead, BufReader, Write};
 use std::os::unix::process::CommandExt;
-use std::path::{Path, PathBuf};
+use std::path::PathBuf;
 use std::process::{Child, ChildStdin, ChildStdout, Command, Stdio};
 use std::sync::atomic::{AtomicUsize, Ordering};
 use std::sync::mpsc::{channel, Receiver, RecvTimeoutError, Sender};
@@ -132,12 +132,13 @@ fn is_installed() -> bool {
     env::split_paths(&path).any(|folder| folder.join("chromium").is_file())
 }
 
-/// A new folder. Each browser of this process has another one.
+/// A new folder. Each browser of this process has another one. It is not in the checkout: chromium
+/// makes links there, which rt refuses where a test that was killed has left them.
 fn fresh_folder() -> PathBuf {
     static STARTED: AtomicUsize = AtomicUsize::new(0);
     let number = STARTED.fetch_add(1, Ordering::Relaxed);
-    let name = format!("browser-{}-{number}", std::process::id());
-    let folder = Path::new(env!("CARGO_TARGET_TMPDIR")).join(name);
+    let name = format!("hoard-browser-{}-{number}", std::process::id());
+    let folder = env::temp_dir().join(name);
     // A process that was ended before it removed its own may have had the same number.
     let _ = fs::remove_dir_all(&folder);
     fs::create_dir_all(&folder).expect("there is room for chromium's folder");

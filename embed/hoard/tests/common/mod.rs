@@ -4,6 +4,7 @@
 //! - `folder`: a folder of files for a test.
 //! - `speech`: a scenario in words, written once more from what was asked for.
 //! - `play`: a scenario that is made and played with the other implementation.
+//! - `places`: the places that a call names.
 //! - `said`: what is to be said of a call.
 //! - `reason`: why a call is refused.
 //! - `drawn`: any steps and any sizes, drawn from a seed.
@@ -13,6 +14,7 @@
 
 pub mod drawn;
 pub mod folder;
+pub mod places;
 pub mod play;
 pub mod program;
 pub mod reason;

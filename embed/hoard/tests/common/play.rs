@@ -3,6 +3,7 @@
 use other::generator::{Call, Caller, Chance, Habits, Reply};
 use other::{next, open, step, Answer, Limits, Sizes, Step, USUAL_LIMITS};
 
+use super::places::{places, Places};
 use super::{drawn, speech};
 
 /// The cells of a server's record.
@@ -209,33 +210,27 @@ impl Play {
 
     /// What a call concerns.
     fn seen(&self, call: Call) -> Seen {
-        let block = block_of(call).and_then(|(server, slot, drive)| {
-            let within = self.has(server, slot) && usize::from(drive) < self.sizes.drives;
-            within
-                .then(|| self.cells(self.sizes.block_at(slot.into(), drive.into(), server.into())))
+        let Places { slot, drive, owner, .. } = places(call);
+        let block = owner.zip(slot).zip(drive).and_then(|((owner, slot), drive)| {
+            let within = self.has(owner, slot) && (drive as usize) < self.sizes.drives;
+            let at = || self.sizes.block_at(slot as usize, drive as usize, owner as usize);
+            within.then(|| self.cells(at()))
         });
         Seen { off: self.room[3], servers: self.servers(call), block }
     }
 
-    /// The records that a call concerns.
+    /// The records that a call concerns: that in the slot which it names, or those of all slots.
     fn servers(&self, call: Call) -> Vec<(u32, Record)> {
-        let all = 0..self.sizes.slots as u8;
-        let (server, slots) = match call {
-            Call::Step(Step::Fail { server }) => (server, all.collect()),
-            Call::Ask { server } => (server as u8, all.collect()),
-            _ => match place_of(call) {
-                Some((server, slot)) => (server, vec![slot]),
-                None => return Vec::new(),
-            },
-        };
-        let within = slots.into_iter().filter(|&slot| self.has(server, slot));
-        let record = |slot: u8| self.cells(self.sizes.server_at(slot.into(), server.into()));
-        within.map(|slot| (slot.into(), record(slot))).collect()
+        let Places { server: Some(server), slot, .. } = places(call) else { return Vec::new() };
+        let slots = slot.map_or(0..self.sizes.slots as u32, |slot| slot..slot + 1);
+        let within = slots.filter(|&slot| self.has(server, slot));
+        let at = |slot: u32| self.sizes.server_at(slot as usize, server as usize);
+        within.map(|slot| (slot, self.cells(at(slot)))).collect()
     }
 
     /// Whether the room has this server and this slot.
-    fn has(&self, server: u8, slot: u8) -> bool {
-        usize::from(server) < self.sizes.servers && usize::from(slot) < self.sizes.slots
+    fn has(&self, server: u32, slot: u32) -> bool {
+        (server as usize) < self.sizes.servers && (slot as usize) < self.sizes.slots
     }
 
     /// The cells from a place on.
@@ -254,33 +249,5 @@ impl Made {
             }
             _ => None,
         }
-    }
-}
-
-/// The server and the slot that a call names, where it names both.
-fn place_of(call: Call) -> Option<(u8, u8)> {
-    match call {
-        Call::Put { server, slot, .. } => Some((server as u8, slot as u8)),
-        Call::Step(
-            Step::Offer { server, slot, .. }
-            | Step::Recall { server, slot, .. }
-            | Step::Rejoin { server, slot, .. }
-            | Step::Bid { server, slot, .. }
-            | Step::Write { server, slot, .. }
-            | Step::Read { server, slot, .. }
-            | Step::Finish { server, slot },
-        ) => Some((server, slot)),
-        _ => None,
-    }
-}
-
-/// Whose block a call is about, in which slot and on which drive.
-fn block_of(call: Call) -> Option<(u8, u8, u8)> {
-    match call {
-        Call::Step(Step::Recall { server, slot, drive } | Step::Write { server, slot, drive }) => {
-            Some((server, slot, drive))
-        }
-        Call::Step(Step::Read { slot, drive, other, .. }) => Some((other, slot, drive)),
-        _ => None,
     }
 }

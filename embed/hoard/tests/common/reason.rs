@@ -4,23 +4,13 @@
 use other::generator::Call;
 use other::{Server, Sizes, Step};
 
+use super::places::{places, Places};
 use super::play::{End, Made};
 use super::speech;
 
-/// The places that a call names: server, slot, drive, and the other server.
-#[derive(Clone, Copy, Default)]
-struct Named {
-    server: Option<u32>,
-    slot: Option<u32>,
-    drive: Option<u32>,
-    other: Option<u32>,
-    /// The command or the ballot.
-    number: u32,
-}
-
 /// The reason of a refusal with this number.
 pub fn reason(made: &Made, sizes: Sizes, number: u32) -> String {
-    let named = named(made.call);
+    let named = places(made.call);
     let server = named.server.unwrap_or_default();
     let slot = named.slot.unwrap_or_default();
     let drive = named.drive.unwrap_or_default();
@@ -29,8 +19,8 @@ pub fn reason(made: &Made, sizes: Sizes, number: u32) -> String {
     let place = format!("server {server} in slot {slot}");
     match number {
         4 => beyond(named, sizes),
-        5 => format!("{} is not a command of this room", speech::command(named.number)),
-        6 => format!("{} is not a ballot of server {server}", named.number),
+        5 => format!("{} is not a command of this room", speech::command(number_of(made.call))),
+        6 => format!("{} is not a ballot of server {server}", number_of(made.call)),
         7 => format!("{place} is in phase {}", own.phase),
         8 => format!("drive {drive} is off"),
         9 => format!("{place} has not written drive {drive} in this phase"),
@@ -52,51 +42,31 @@ pub fn settle_reason(end: End, place: (u8, u8), sizes: Sizes) -> String {
     let (server, slot) = (place.0.into(), place.1.into());
     match end {
         End::Refused(4, _) => {
-            beyond(Named { server: Some(server), slot: Some(slot), ..Named::default() }, sizes)
+            beyond(Places { server: Some(server), slot: Some(slot), ..Places::default() }, sizes)
         }
         End::Refused(19, off) => minority(!off, sizes, "is on", "are on"),
         _ => panic!("{end:?} is not to be refused so"),
     }
 }
 
-/// What a call names.
-fn named(call: Call) -> Named {
-    let of = |server: u8, slot: u8| Named {
-        server: Some(server.into()),
-        slot: Some(slot.into()),
-        ..Named::default()
-    };
+/// The command or the ballot that a call brings.
+fn number_of(call: Call) -> u32 {
     match call {
-        Call::Ask { server } => Named { server: Some(server), ..Named::default() },
-        Call::Put { server, slot, command: number } => {
-            Named { number, ..of(server as u8, slot as u8) }
-        }
-        Call::Step(step) => match step {
-            Step::Offer { server, slot, number }
-            | Step::Rejoin { server, slot, number }
-            | Step::Bid { server, slot, number } => Named { number, ..of(server, slot) },
-            Step::Recall { server, slot, drive } | Step::Write { server, slot, drive } => {
-                Named { drive: Some(drive.into()), ..of(server, slot) }
-            }
-            Step::Read { server, slot, drive, other } => {
-                Named { drive: Some(drive.into()), other: Some(other.into()), ..of(server, slot) }
-            }
-            Step::Finish { server, slot } => of(server, slot),
-            Step::Fail { server } => Named { server: Some(server.into()), ..Named::default() },
-            Step::DriveOff { drive } | Step::DriveOn { drive } => {
-                Named { drive: Some(drive.into()), ..Named::default() }
-            }
-        },
+        Call::Put { command: number, .. }
+        | Call::Step(
+            Step::Offer { number, .. } | Step::Rejoin { number, .. } | Step::Bid { number, .. },
+        ) => number,
+        _ => panic!("{call:?} brings no number"),
     }
 }
 
 /// Which place the room does not have: the first that is named.
-fn beyond(named: Named, sizes: Sizes) -> String {
+fn beyond(named: Places, sizes: Sizes) -> String {
     let missing = [
         ("server", named.server, sizes.servers),
         ("slot", named.slot, sizes.slots),
         ("drive", named.drive, sizes.drives),
-        ("server", named.other, sizes.servers),
+        ("server", named.owner, sizes.servers),
     ]
     .into_iter()
     .find_map(|(name, place, size)| {

@@ -4,8 +4,9 @@
 use other::generator::Chance;
 
 use crate::browser::Browser;
+use crate::common::places::places;
 use crate::common::play::{Made, Play};
-use crate::runs::{open, places_of, several, slot, slots, SHOWN};
+use crate::runs::{open, several, slot, slots, SHOWN};
 use crate::words::{name, told};
 
 /// The numbers of the events of a class that are shown, and what the sentence says.
@@ -51,7 +52,7 @@ fn what_lies_between_two_writes_is_marked_and_said() {
 fn some_pairs(chance: &mut Chance, play: &Play, shown: &[u32]) -> Vec<(usize, usize)> {
     let writes: Vec<(usize, &Made)> =
         (1..).zip(play.made()).filter(|(_, made)| is_write(made, shown)).collect();
-    let drive = |made: &Made| places_of(made.call).drive;
+    let drive = |made: &Made| places(made.call).drive;
     let pairs = writes.iter().enumerate().flat_map(|(place, (from, first))| {
         let rest = writes[place + 1..].iter();
         rest.filter(|(_, second)| drive(first) == drive(second)).map(|(to, _)| (*from, *to))
@@ -71,11 +72,11 @@ fn is_write(made: &Made, shown: &[u32]) -> bool {
 /// Chooses two writes, compares what is marked and said, and lets them go.
 fn choose(browser: &mut Browser, play: &Play, shown: &[u32], from: usize, to: usize) {
     let made: Vec<&Made> = play.made().collect();
-    let drive = places_of(made[from - 1].call).drive;
+    let drive = places(made[from - 1].call).drive;
     let inside = (from + 1..to).filter(|&number| {
         let made = made[number - 1];
         let here = slot(made).is_some_and(|slot| shown.contains(&slot));
-        here && places_of(made.call).drive == drive && told(made).is_some()
+        here && places(made.call).drive == drive && told(made).is_some()
     });
     let inside: Vec<usize> = inside.collect();
     // The later one may be chosen first.

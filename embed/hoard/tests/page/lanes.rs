@@ -2,10 +2,11 @@
 
 use other::Sizes;
 
+use crate::common::places::places;
 use crate::common::play::{Block, Made, Play};
 use crate::common::said::block_words;
 use crate::common::speech::command;
-use crate::runs::{open, places_of, several, slots};
+use crate::runs::{open, several, slots};
 use crate::words::name;
 
 /// What is seen at the right edge of each column: the phase in each row of the servers, for each
@@ -125,7 +126,7 @@ impl State {
     fn take(&mut self, made: &Made) {
         self.edges += (made.after.off & !self.off).count_ones() as usize;
         self.off = made.after.off;
-        let places = places_of(made.call);
+        let places = places(made.call);
         for (own, record) in &made.after.servers {
             let place = self.slots.iter().position(|slot| slot == own);
             if let (Some(place), Some(server)) = (place, places.server) {

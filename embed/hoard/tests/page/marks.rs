@@ -2,8 +2,9 @@
 
 use other::Sizes;
 
+use crate::common::places::places;
 use crate::common::play::{Made, Play};
-use crate::runs::{open, places_of, several, slot, slots};
+use crate::runs::{open, several, slot, slots};
 use crate::words::{lines, name, outcome};
 
 /// What is seen of each call: its number, the classes of its mark, its texts, the row in which the
@@ -127,7 +128,7 @@ fn compare(play: &Play, number: usize, made: &Made, seen: &str) {
 fn expected_bar(play: &Play, made: &Made) -> Option<String> {
     let (slots, servers) = (slots(play).len(), play.sizes.servers);
     let accepted = made.reply.refusal().is_none();
-    let places = places_of(made.call);
+    let places = places(made.call);
     let (first, rows) = match (name(made.call), places.server, places.drive) {
         ("fail", Some(server), _) if accepted => (server as usize * slots, slots),
         ("drive", _, Some(drive)) if accepted => {
@@ -155,15 +156,14 @@ fn expected_arrow(play: &Play, made: &Made) -> &'static str {
 /// is as high as the lane.
 fn server_row(play: &Play, made: &Made) -> Option<usize> {
     let slots = slots(play);
-    let server =
-        places_of(made.call).server.filter(|&server| server < play.sizes.servers as u32)?;
+    let server = places(made.call).server.filter(|&server| server < play.sizes.servers as u32)?;
     let place = slots.iter().position(|&own| Some(own) == slot(made))?;
     Some(server as usize * slots.len() + place)
 }
 
 /// The row of the block that a call is about.
 fn block_row(play: &Play, made: &Made) -> Option<usize> {
-    let places = places_of(made.call);
+    let places = places(made.call);
     let (drive, owner) = (places.drive? as usize, places.owner? as usize);
     let servers = play.sizes.servers;
     (drive < play.sizes.drives && owner < servers).then_some(drive * servers + owner)

@@ -1,10 +1,11 @@
 //! The records of a call under the mouse, before it and after.
 
 use crate::browser::Browser;
+use crate::common::places::places;
 use crate::common::play::{Block, Made, Play, Record};
 use crate::common::said::answer_of;
 use crate::common::speech::{self, command};
-use crate::runs::{open, places_of, several, slot, slots, SHOWN};
+use crate::runs::{open, several, slot, slots, SHOWN};
 
 /// The lines of the card, and of each table its name and its rows.
 const CARD: &str = r#"(() => {
@@ -49,7 +50,7 @@ fn compare(browser: &mut Browser, play: &Play, number: usize, made: &Made) {
 
 /// The lines of the tables of a call. One that names no slot has a table for each that is shown.
 fn tables(play: &Play, made: &Made) -> Vec<String> {
-    let places = places_of(made.call);
+    let places = places(made.call);
     let Some(server) = places.server else { return drives(play, made) };
     let shown = slots(play);
     let pairs = made.before.servers.iter().zip(&made.after.servers);

@@ -7,6 +7,7 @@ use other::{Answer, Sizes, Step};
 
 use crate::browser::Browser;
 use crate::common::folder::Folder;
+use crate::common::places::places;
 use crate::common::play::{Made, Play};
 use crate::common::program::done;
 
@@ -75,62 +76,8 @@ pub fn slots(play: &Play) -> Vec<u32> {
 
 /// The slot that a call is about, for an Ask the one that it named.
 pub fn slot(made: &Made) -> Option<u32> {
-    match (made.call, made.reply) {
-        (Call::Ask { .. }, Reply::Slot(slot)) => Some(slot),
-        (Call::Ask { .. }, _) => None,
-        (Call::Put { slot, .. }, _) => Some(slot),
-        (Call::Step(step), _) => places(step).slot,
-    }
-}
-
-/// The numbers of a step, each where it has it.
-#[derive(Clone, Copy, Debug, Default, PartialEq, Eq)]
-pub struct Places {
-    /// The server.
-    pub server: Option<u32>,
-    /// The slot.
-    pub slot: Option<u32>,
-    /// The drive.
-    pub drive: Option<u32>,
-    /// The server whose block it is about.
-    pub owner: Option<u32>,
-}
-
-/// The numbers of a step.
-pub fn places(step: Step) -> Places {
-    let place = |server: u8, slot: u8| Places {
-        server: Some(server.into()),
-        slot: Some(slot.into()),
-        ..Places::default()
-    };
-    let there = |server, slot, drive: u8, owner: u8| Places {
-        drive: Some(drive.into()),
-        owner: Some(owner.into()),
-        ..place(server, slot)
-    };
-    match step {
-        Step::Offer { server, slot, .. }
-        | Step::Rejoin { server, slot, .. }
-        | Step::Bid { server, slot, .. }
-        | Step::Finish { server, slot } => place(server, slot),
-        Step::Recall { server, slot, drive } | Step::Write { server, slot, drive } => {
-            there(server, slot, drive, server)
-        }
-        Step::Read { server, slot, drive, other } => there(server, slot, drive, other),
-        Step::Fail { server } => Places { server: Some(server.into()), ..Places::default() },
-        Step::DriveOff { drive } | Step::DriveOn { drive } => {
-            Places { drive: Some(drive.into()), ..Places::default() }
-        }
-    }
-}
-
-/// The numbers of a call.
-pub fn places_of(call: Call) -> Places {
-    match call {
-        Call::Step(step) => places(step),
-        Call::Ask { server } => Places { server: Some(server), ..Places::default() },
-        Call::Put { server, slot, .. } => {
-            Places { server: Some(server), slot: Some(slot), ..Places::default() }
-        }
+    match made.reply {
+        Reply::Slot(slot) => Some(slot),
+        _ => places(made.call).slot,
     }
 }

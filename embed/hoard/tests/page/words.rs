@@ -3,11 +3,11 @@
 use other::generator::{Call, Reply};
 use other::{Answer, Sizes, Step};
 
+use crate::common::places::places;
 use crate::common::play::{Block, Made};
 use crate::common::reason::reason;
 use crate::common::said::block_words;
 use crate::common::speech::command;
-use crate::runs::places_of;
 
 /// The name of a call.
 pub fn name(call: Call) -> &'static str {
@@ -70,7 +70,7 @@ fn short(made: &Made, sizes: Sizes, number: u32) -> String {
         5 => "no command of this room".to_string(),
         7 => format!("in phase {}", made.before.servers[0].1[0]),
         9 => {
-            let drive = places_of(made.call).drive.expect("a Read is on a drive");
+            let drive = places(made.call).drive.expect("a Read is on a drive");
             format!("drive {drive} is not written")
         }
         10 => "no majority".to_string(),
@@ -117,7 +117,7 @@ fn brought(call: Call) -> String {
 /// What a call read or wrote, as a sentence; none where it did not.
 pub fn told(made: &Made) -> Option<String> {
     let accepted = made.reply.refusal().is_none();
-    let places = places_of(made.call);
+    let places = places(made.call);
     let (server, owner) = (places.server?, places.owner.filter(|_| accepted)?);
     let held = block_words(made.after.block?);
     Some(match name(made.call) {
