@@ -1,7 +1,8 @@
--- What the range rule says of one record and of one block, number by number, and which marks are legal.
+-- What the range rule says of one record and of one block, number by number, whatever the test of a value; and which marks
+-- are legal.
 use Prim.Native.Nat.{ℕ, ◌+◌, ◌*◌, ◌/◌, ◌%◌, ◌<◌, ◌≤◌}
 use mathlib.Core.Path.{◌≡◌, refl, ◌∙◌, ap}
-use mathlib.Core.Bool.{true, ◌&&◌}
+use mathlib.Core.Bool.{Bool, true, ◌&&◌}
 use mathlib.Core.List.{List}
 use native.Mathlib.Omega.{arith}
 use lib.Dec.{eqb, leb, ltb}
@@ -19,7 +20,7 @@ use Rattle.layout.specs.Places.{Fit}
 use Rattle.range.specs.declared.Masks.{Masks}
 use Rattle.range.specs.Range.{legal_drives, legal_reads, value_fits, numbers_fit, server_fits, block_fits}
 
-pub record ServerIn (limits : List ℕ) (k : Masks) (v : Server) : Type 0 where
+pub record ServerIn (value : ℕ → Bool) (k : Masks) (v : Server) : Type 0 where
   pub phase : v.phase ≤ 3
   pub mbal : v.mbal ≤ limit
   pub bal : v.bal ≤ limit
@@ -27,20 +28,20 @@ pub record ServerIn (limits : List ℕ) (k : Masks) (v : Server) : Type 0 where
   pub seenbal : v.seenbal ≤ limit
   pub written : within v.written k.drives ≡ true
   pub read : within v.read k.reads ≡ true
-  pub inp : value_fits limits v.inp ≡ true
-  pub offer : value_fits limits v.offer ≡ true
-  pub seeninp : value_fits limits v.seeninp ≡ true
-  pub agreed : value_fits limits v.agreed ≡ true
+  pub inp : value v.inp ≡ true
+  pub offer : value v.offer ≡ true
+  pub seeninp : value v.seeninp ≡ true
+  pub agreed : value v.agreed ≡ true
 
-pub record BlockIn (limits : List ℕ) (b : Block) : Type 0 where
+pub record BlockIn (value : ℕ → Bool) (b : Block) : Type 0 where
   pub mbal : b.mbal ≤ limit
   pub bal : b.bal ≤ limit
-  pub inp : value_fits limits b.inp ≡ true
-  pub done : value_fits limits b.done ≡ true
+  pub inp : value b.inp ≡ true
+  pub done : value b.done ≡ true
 
-pub server_says : (limits : List ℕ) (k : Masks) (v : Server) → server_fits (value_fits limits) k v ≡ true → ServerIn limits k v
+pub server_says : (value : ℕ → Bool) (k : Masks) (v : Server) → server_fits value k v ≡ true → ServerIn value k v
 unfolding server_fits numbers_fit
-server_says limits k v e =
+server_says value k v e =
     let a = leb v.phase 3 in
     let b = ballot_fits v.mbal in
     let c = ballot_fits v.bal in
@@ -48,10 +49,10 @@ server_says limits k v e =
     let f = ballot_fits v.seenbal in
     let g = within v.written k.drives in
     let h = within v.read k.reads in
-    let i = value_fits limits v.inp in
-    let o = value_fits limits v.offer in
-    let n = value_fits limits v.seeninp in
-    let m = value_fits limits v.agreed in
+    let i = value v.inp in
+    let o = value v.offer in
+    let n = value v.seeninp in
+    let m = value v.agreed in
     let numbers = a && b && c && d && f && g && h in
     let e10 = and_left (numbers && i && o && n) m e in
     let e9 = and_left (numbers && i && o) n e10 in
@@ -76,9 +77,9 @@ server_says limits k v e =
       agreed = and_right (numbers && i && o && n) m e;
     }
 
-pub says_server : (limits : List ℕ) (k : Masks) (v : Server) → ServerIn limits k v → server_fits (value_fits limits) k v ≡ true
+pub says_server : (value : ℕ → Bool) (k : Masks) (v : Server) → ServerIn value k v → server_fits value k v ≡ true
 unfolding server_fits numbers_fit
-says_server limits k v s =
+says_server value k v s =
     let a = le-leb v.phase 3 s.phase in
     let b = le-leb v.mbal limit s.mbal in
     let c = le-leb v.bal limit s.bal in
@@ -88,13 +89,13 @@ says_server limits k v s =
     let numbers = and_intro _ _ (and_intro _ _ ballots s.written) s.read in
     and_intro _ _ (and_intro _ _ (and_intro _ _ (and_intro _ _ numbers s.inp) s.offer) s.seeninp) s.agreed
 
-pub block_says : (limits : List ℕ) (b : Block) → block_fits (value_fits limits) b ≡ true → BlockIn limits b
+pub block_says : (value : ℕ → Bool) (b : Block) → block_fits value b ≡ true → BlockIn value b
 unfolding block_fits
-block_says limits b e =
+block_says value b e =
     let m = ballot_fits b.mbal in
     let c = ballot_fits b.bal in
-    let v = value_fits limits b.inp in
-    let d = value_fits limits b.done in
+    let v = value b.inp in
+    let d = value b.done in
     let ballots = and_left (m && c) (v && d) e in
     let values = and_right (m && c) (v && d) e in
     record {
@@ -104,9 +105,9 @@ block_says limits b e =
       done = and_right v d values;
     }
 
-pub says_block : (limits : List ℕ) (b : Block) → BlockIn limits b → block_fits (value_fits limits) b ≡ true
+pub says_block : (value : ℕ → Bool) (b : Block) → BlockIn value b → block_fits value b ≡ true
 unfolding block_fits
-says_block limits b s =
+says_block value b s =
     and_intro _ _
     (and_intro _ _ (le-leb b.mbal limit s.mbal) (le-leb b.bal limit s.bal))
     (and_intro _ _ s.inp s.done)
