@@ -8,6 +8,11 @@ pub data Checked (A : Type 0) : Type 0 where
   Either : Bool → Checked A → Checked A → Checked A
   Gives : A → Checked A
 
+-- one check, and then the rest: what a `do` block of checks is
+infixr 10 ◌>>◌
+abbrev pub ◌>>◌ : {A B : Type 0} → (A → B) → A → B
+check >> rest = check rest
+
 -- the rest, or refused where the condition does not hold
 unfoldable pub must : {A : Type 0} → Bool → Refusal → Result A Refusal → Result A Refusal
 must b refusal rest = cond b rest (Err refusal)

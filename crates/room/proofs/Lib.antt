@@ -2,3 +2,7 @@
 pub mod OpenLaws
 pub mod Checks
 pub mod ReadyLaws
+-- a step on a row is the step on the room that the row is
+pub mod Answering
+pub mod Effects
+pub mod Bridge

@@ -3,3 +3,4 @@ pub mod Open
 pub mod Judge
 pub mod Ready
 pub mod Step
+pub mod ByNext

@@ -8,11 +8,10 @@ use Rattle.state.specs.declared.Step.{Step}
 use Rattle.synod.specs.Slot.{config_of}
 use Rattle.synod.proofs.Alike.{Alike, alike_same}
 use Rattle.layout.specs.Cells.{sizes_of}
-use Rattle.range.proofs.Laws.{range_says}
 use Rattle.room.specs.Judge.{seen}
 use Rattle.room.specs.Step.{settled, stepped}
 use Rattle.room.proofs.Checks.{by_checks}
-use Rattle.step_laws.specs.Concerns.{concerns}
+use Rattle.value.specs.Concerns.{concerns}
 use Rattle.step_laws.proofs.Slots.{after_at}
 use Rattle.step_laws.proofs.SlotTie.{slot_tie}
 
@@ -27,4 +26,4 @@ Slot-kept cells st t h e =
     (λ a. alike_same (config_of z) (seen z cells t))
     (λ a b. alike_same (config_of z) (seen z cells t))
     (λ a b c. alike_same (config_of z) (seen z cells t))
-    (λ a b c. rw e at (slot_tie z cells (range_says cells a).row st b t h))
+    (λ a b c. rw e at (slot_tie cells st a b c t h))

@@ -1,85 +1,83 @@
--- Each step's definition over the cells, seen slot by slot, is the step of the machine of one slot; a slot that the step
--- does not concern is as it was.
+-- Each slot of the cells that are left is alike the slot that the machine of one slot makes.
 use Prim.Native.Nat.{ℕ, ◌<◌}
-use mathlib.Core.Path.{◌≡◌, subst}
-use mathlib.Core.Bool.{true, cond}
+use mathlib.Core.Path.{◌≡◌, ◌∙◌, sym, ap, subst}
+use mathlib.Core.Bool.{true, true≢false}
 use mathlib.Core.List.{List}
-use lib.Dec.{eqb}
-use borrow.Author.Tests.{eqb-true, eqb-false}
+use borrow.Author.Tests.{eqb-true}
 use Rattle.lemmas.proofs.Tests.{by_test}
 use Rattle.std.specs.Prelude.{Ok, Err}
 use Rattle.checks.specs.Checks.{left_by}
 use Rattle.state.specs.declared.Sizes.{Sizes}
 use Rattle.state.specs.declared.Step.{Step}
-use Rattle.state.specs.View.{Deed, Brings, Stores, Alone, View, AtSlot, AtServer, AtDrive, view_of, view_slot}
+use Rattle.state.specs.View.{View, AtSlot, AtServer, AtDrive, view_of, view_slot}
+use Rattle.synod.specs.Arguments.{places_fit, command_fits}
 use Rattle.synod.specs.Rules.{Ruling}
-use Rattle.synod.specs.Arguments.{places_fit}
-use Rattle.synod.proofs.Machine.{ruled, after_view, after}
 use Rattle.synod.specs.Slot.{Slot, config_of}
-use Rattle.synod.proofs.Alike.{Alike, alike_same}
-use Rattle.synod.proofs.Places.{InView, in_view}
-use Rattle.synod.proofs.Rulings.{Plain, plain}
-use Rattle.layout.specs.Places.{Row}
-use Rattle.layout.specs.Cells.{off_of}
+use Rattle.synod.proofs.Alike.{Alike, alike_same, alike_then, after_alike}
+use Rattle.synod.proofs.Machine.{ruled, after}
+use Rattle.synod.proofs.Places.{in_view}
+use Rattle.synod.proofs.Rulings.{Plain}
+use Rattle.layout.specs.Cells.{sizes_of, limits_of, off_of}
+use Rattle.range.specs.Range.{in_range}
 use Rattle.room.specs.Judge.{seen, effect_of}
 use Rattle.room.specs.Step.{settled}
-use Rattle.step_laws.specs.Concerns.{concerns_at, concerns}
-use Rattle.step_laws.proofs.Slots.{after_at, stored}
-use Rattle.step_laws.proofs.Seen.{record_here, record_elsewhere, block_here, block_elsewhere, off_elsewhere, fail_everywhere}
+use Rattle.value.specs.Concerns.{concerns_at, concerns}
+use Rattle.value.specs.Room.{Room, seen_at, seen_on, no_shelf}
+use Rattle.value.specs.Encoding.{shelf_of, cells_of, room_by}
+use Rattle.value.proofs.Bridge.{room, says, fits, plainly, record_in, by_effect}
+use Rattle.value.proofs.Decodes.{server_read, block_read}
+use Rattle.value.proofs.Held.{RoomIn}
+use Rattle.value.proofs.Shelves.{seen_alike, stored_in}
+use Rattle.value.proofs.Slots.{stored_seen, stored_held}
+use Rattle.value.proofs.Tables.{table_at}
+use Rattle.step_laws.proofs.Slots.{after_at}
 
-module _ (z : Sizes) (r : List ℕ) (row : Row z r) where
-  -- the slot that the view names, after its ruling
-  tied
-      : (p s : ℕ) (k : Deed) (off : ℕ) (x : Ruling) → InView z (AtSlot p s k)
-      → Alike (config_of z) (after_view (seen z r s) (AtSlot p s k) x) (seen z (stored z r (AtSlot p s k) off x) s)
-  unfolding settled
-  tied p s (Brings c) off (Err n) a = alike_same (config_of z) (seen z r s)
-  tied p s (Brings c) off (Ok (v, b)) a = record_here z r row s p v a.slot a.server
-  tied p s (Stores d) off (Err n) a = alike_same (config_of z) (seen z r s)
-  tied p s (Stores d) off (Ok (v, b)) a = block_here z r row s d p v a.slot a.drive a.server
-  tied p s Alone off (Err n) a = alike_same (config_of z) (seen z r s)
-  tied p s Alone off (Ok (v, b)) a = record_here z r row s p v a.slot a.server
+-- the rule says the same at each slot that the view concerns
+one_rule : (σ : ℕ → Slot) (w : View) (f : Slot → Ruling) → ((τ : Slot) → Plain w (f τ)) → (t : ℕ) → concerns_at t w ≡ true → f (σ (view_slot w)) ≡ f (σ t)
+one_rule σ (AtSlot p s k) f plainly t e = ap (λ (u : ℕ). f (σ u)) (eqb-true s t e)
+one_rule σ (AtServer p) f plainly t e = plainly (σ 0) ∙ sym (plainly (σ t))
+one_rule σ (AtDrive d on) f plainly t e = absurd (true≢false (sym e))
 
-  -- any other slot
-  apart
-      : (p s : ℕ) (k : Deed) (off : ℕ) (x : Ruling) → InView z (AtSlot p s k) → (t : ℕ) → (s ≡ t → ⊥)
-      → Alike (config_of z) (seen z r t) (seen z (stored z r (AtSlot p s k) off x) t)
-  unfolding settled
-  apart p s (Brings c) off (Err n) a t ne = alike_same (config_of z) (seen z r t)
-  apart p s (Brings c) off (Ok (v, b)) a t ne = record_elsewhere z r row s p v t a.server ne
-  apart p s (Stores d) off (Err n) a t ne = alike_same (config_of z) (seen z r t)
-  apart p s (Stores d) off (Ok (v, b)) a t ne = block_elsewhere z r row s d p v t a.drive a.server ne
-  apart p s Alone off (Err n) a t ne = alike_same (config_of z) (seen z r t)
-  apart p s Alone off (Ok (v, b)) a t ne = record_elsewhere z r row s p v t a.server ne
+-- a slot of the cells of a room that fits
+cells_seen : (r : Room) (i : RoomIn r) (t : ℕ) → t < r.sizes.slots → Alike (config_of r.sizes) (seen_at r t) (seen r.sizes (cells_of r) t)
+cells_seen r i t h p l = record { own = sym (server_read r i t p h l); disk = λ d k. sym (block_read r i t d p h k l) }
 
-  -- the step with the view w and the rule f, at slot t
-  abbrev TiedAt : ℕ → View → ℕ → (Slot → Ruling) → Type 0
-  TiedAt t w off f =
-      Alike (config_of z) (cond (concerns_at t w) (after_view (seen z r t) w (f (seen z r t))) (seen z r t))
-      (seen z (stored z r w off (f (seen z r (view_slot w)))) t)
+module _ (r : List ℕ) (st : Step) (i : in_range r ≡ true) (b : places_fit (sizes_of r) st ≡ true) (c : command_fits (limits_of r) st ≡ true) where
+  abbrev z : Sizes
+  z = sizes_of r
 
-  view_tie
-      : (t : ℕ) → t < z.slots → (w : View) (off : ℕ) (f : Slot → Ruling) → InView z w → ((σ : Slot) → Plain w (f σ))
-      → TiedAt t w off f
-  unfolding settled
-  view_tie t h (AtSlot p s k) off f a plainly =
-      by_test (eqb s t)
-      (λ same.
-      rw same
-      (subst
-      (λ (u : ℕ).
-      Alike (config_of z) (after_view (seen z r u) (AtSlot p s k) (f (seen z r u)))
-      (seen z (stored z r (AtSlot p s k) off (f (seen z r s))) u))
-      (eqb-true s t same) (tied p s k off (f (seen z r s)) a)))
-      (λ other. rw other (apart p s k off (f (seen z r s)) a t (eqb-false s t other)))
-  view_tie t h (AtServer p) off f a plainly =
-      rw (plainly (seen z r t)) (rw (plainly (seen z r 0)) (fail_everywhere z r row p t a h))
-  view_tie t h (AtDrive d on) off f a plainly = rw (plainly (seen z r 0)) (off_elsewhere z r row off t)
+  abbrev σ : ℕ → Slot
+  σ = seen z r
+
+  abbrev rule : Slot → Ruling
+  rule τ = ruled (config_of z) (off_of r) τ st
+
+  same : (t : ℕ) (x : Ruling) → says r st ≡ x → concerns t st ≡ true → rule (σ t) ≡ x
+  unfolding concerns
+  same t x e k = sym (one_rule σ (view_of st) rule (plainly r st i b c) t k) ∙ e
+
+  room_seen : (t : ℕ) → t < z.slots → Alike (config_of z) (σ t) (seen_at (room r st) t)
+  unfolding room_by
+  room_seen t h p l =
+      let there = table_at z.slots (λ s. shelf_of z (seen z r s)) no_shelf t h in
+      let like = seen_alike z (σ t) p l in
+      record {
+        own = sym (ap (λ x. (seen_on x p).own) there ∙ like.own);
+        disk = λ d k. sym (ap (λ x. (seen_on x p).disk d) there ∙ like.disk d k);
+      }
 
   pub slot_tie
-      : (st : Step) → places_fit z st ≡ true → (t : ℕ) → t < z.slots
-      → Alike (config_of z) (after_at z (off_of r) t (seen z r t) st) (seen z (left_by (settled z r) r (effect_of z r st)) t)
-  unfolding effect_of after_at concerns after
-  slot_tie st e t h =
-      view_tie t h (view_of st) _ (λ σ. ruled (config_of z) (off_of r) σ st) (in_view z st e)
-      (λ σ. plain (config_of z) (off_of r) σ st)
+      : (t : ℕ) → t < z.slots → Alike (config_of z) (after_at z (off_of r) t (σ t) st) (seen z (left_by (settled z r) r (effect_of z r st)) t)
+  unfolding after_at after concerns room_by
+  slot_tie t h =
+      by_effect r st i b c (λ l. Alike (config_of z) (after_at z (off_of r) t (σ t) st) (seen z l t))
+      (λ n e. by_test (concerns t st) (λ k. rw (k, same t (Err n) e k) (alike_same (config_of z) (σ t))) (λ k. rw k (alike_same (config_of z) (σ t))))
+      (λ v x e.
+      let u = stored_in (room r st) (view_of st) v in
+      let made = stored_seen (room r st) (fits r st i b c) (view_of st) v x (in_view z st b) (subst (Plain (view_of st)) e (plainly r st i b c (σ (view_slot (view_of st))))) t h in
+      alike_then
+      (by_test (concerns t st)
+      (λ k. rw (k, same t (Ok (v, x)) e k) (after_alike (room_seen t h) st (Ok (v, x))))
+      (λ k. rw k (room_seen t h)))
+      (subst (λ (τ : Slot). Alike (config_of z) τ (seen z (cells_of u) t)) made
+      (cells_seen u (stored_held (room r st) (fits r st i b c) (view_of st) v (in_view z st b) (record_in r st i b c v x e)) t h)))

@@ -1,0 +1,13 @@
+-- A room as a value, its one next step, and the row of cells that is its encoding.
+-- a room: its sizes, off marks and limits, and what its servers and drives hold; the four ways in which it changes
+pub mod Room
+-- the ten steps on a room, on one page
+pub mod Next
+-- what a room may hold: its shape, and its ranges
+pub mod Fits
+-- the cells of a room, the room that a row is, and a step on a row by both
+pub mod Encoding
+-- which slots a step may change
+pub mod Concerns
+-- what is promised of the encoding
+pub mod Promise
