@@ -19,8 +19,8 @@ use Rattle.synod.specs.Slot.{Slot, config_of}
 use Rattle.synod.proofs.Rulings.{Plain, plain}
 use Rattle.layout.specs.Cells.{off_of}
 use Rattle.room.specs.Judge.{seen, effect_of, answer_of}
-use Rattle.step_laws.specs.Concerns.{concerns_at, concerns}
-use Rattle.step_laws.proofs.Answering.{answer_by, effect_answer}
+use Rattle.model.specs.Concerns.{concerns_at, concerns}
+use Rattle.room.proofs.Answering.{answer_by, effect_answer}
 use Rattle.history.specs.Run.{Rests, deed_move, move_at, move_of}
 
 rests_anyway : (b : Bool) → cond b Rests Rests ≡ Rests

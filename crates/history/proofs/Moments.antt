@@ -29,38 +29,30 @@ use Rattle.room.specs.Step.{settled, answered, stepped}
 use Rattle.free_slots.specs.Put.{put_judged, put_answered, put_cells}
 use Rattle.room.proofs.Checks.{by_checks}
 use Rattle.free_slots.proofs.PutLaws.{by_put}
-use Rattle.step_laws.specs.Concerns.{concerns}
+use Rattle.model.specs.Concerns.{concerns}
 use Rattle.step_laws.proofs.Slots.{after_at}
-use Rattle.step_laws.proofs.StoresKeep.{Whole}
-use Rattle.step_laws.proofs.StepKeeps.{effect_kept}
-use Rattle.step_laws.proofs.SlotTie.{slot_tie}
+use Rattle.step_laws.proofs.StepKeeps.{Whole, effect_kept}
+use Rattle.step_laws.proofs.ByRule.{whole_tie}
 use Rattle.history.specs.Calls.{Call, Steps, Asks, Puts, Event, event_of, called}
 use Rattle.history.specs.Run.{Move, Rests, move_of, move_in, output_in, output_by, WhenChooses}
 use Rattle.history.proofs.SlotMoves.{Moves, rests}
-use Rattle.step_laws.proofs.Answering.{answer_by}
+use Rattle.room.proofs.Answering.{answer_by}
 use Rattle.history.proofs.StepMoves.{MovesBy, concerned}
 use Rattle.history.proofs.Answers.{refused_rests, unconcerned, answer_tie}
 use Rattle.history.proofs.Choosers.{chooses_map, chooser}
 
-pub record Moment (limits : List ℕ) (z : Sizes) (cells : List ℕ) (g : ℕ → Ghost) (σ : ℕ → Slot) : Type 0 where
-  pub whole : Whole limits z cells
-  pub alike : (t : ℕ) → t < z.slots → Alike (config_of z) (σ t) (seen z cells t)
-  pub holds : (t : ℕ) → t < z.slots → Invariant (config_of z) (g t) (σ t)
-
--- the next moment, to which each slot's machine makes a move, with an output
-pub record Next (limits : List ℕ) (z : Sizes) (g : ℕ → Ghost) (σ : ℕ → Slot) (move : ℕ → Move) (out : ℕ → ℕ) (cells : List ℕ) : Type 0 where
+pub record Moment (limits : List ℕ) (z : Sizes) (cells : List ℕ) : Type 0 where
   pub ghosts : ℕ → Ghost
   pub slots : ℕ → Slot
-  pub moment : Moment limits z cells ghosts slots
-  pub moves : (t : ℕ) → t < z.slots → Moves (g t) (σ t) (move t) (out t) (ghosts t) (slots t)
+  pub whole : Whole limits z cells
+  pub alike : (t : ℕ) → t < z.slots → Alike (config_of z) (slots t) (seen z cells t)
+  pub holds : (t : ℕ) → t < z.slots → Invariant (config_of z) (ghosts t) (slots t)
+
+-- the next moment, to which each slot's machine makes a move, with an output
+pub record Next (limits : List ℕ) (z : Sizes) (old : List ℕ) (now : Moment limits z old) (move : ℕ → Move) (out : ℕ → ℕ) (cells : List ℕ) : Type 0 where
+  pub moment : Moment limits z cells
+  pub moves : (t : ℕ) → t < z.slots → Moves (now.ghosts t) (now.slots t) (move t) (out t) (moment.ghosts t) (moment.slots t)
   pub within : (t : ℕ) → WhenChooses (move t) (λ p. p < z.servers)
-
--- the moment after a step with this answer, and after an event
-abbrev AfterStep : List ℕ → Sizes → (ℕ → Ghost) → (ℕ → Slot) → Step → Answered → List ℕ → Type 0
-AfterStep limits z g σ st a cells = Next limits z g σ (λ t. move_of t st a) (λ t. output_in (move_of t st a) a) cells
-
-abbrev pub After : List ℕ → Sizes → (ℕ → Ghost) → (ℕ → Slot) → Event → List ℕ → Type 0
-After limits z g σ e cells = Next limits z g σ (λ t. move_in t e) (λ t. output_by t e) cells
 
 fits_of : (z : Sizes) → Fit z → Fits (config_of z)
 fits_of z f = record { servers = f.servers; drives = f.drives }
@@ -69,7 +61,20 @@ fits_of z f = record { servers = f.servers; drives = f.drives }
 resting : (t : ℕ) (g : Ghost) (σ : Slot) (st : Step) (a : Answered) → move_of t st a ≡ Rests → MovesBy t g σ st a g σ
 resting t g σ st a e = rw e (rests g σ)
 
-module _ (limits : List ℕ) (z : Sizes) (cells : List ℕ) (g : ℕ → Ghost) (σ : ℕ → Slot) (now : Moment limits z cells g σ) where
+module _ (limits : List ℕ) (z : Sizes) (cells : List ℕ) (now : Moment limits z cells) where
+  abbrev g : ℕ → Ghost
+  g = now.ghosts
+
+  abbrev σ : ℕ → Slot
+  σ = now.slots
+
+  -- the moment after a step with this answer, and after an event
+  abbrev AfterStep : Step → Answered → List ℕ → Type 0
+  AfterStep st a = Next limits z cells now (λ t. move_of t st a) (λ t. output_in (move_of t st a) a)
+
+  abbrev pub After : Event → List ℕ → Type 0
+  After e = Next limits z cells now (λ t. move_in t e) (λ t. output_by t e)
+
   fit : Fit z
   fit = now.whole.range.row.fit
 
@@ -115,17 +120,17 @@ module _ (limits : List ℕ) (z : Sizes) (cells : List ℕ) (g : ℕ → Ghost) 
 
   effect_next
       : (st : Step) → places_fit z st ≡ true → command_fits limits st ≡ true
-      → AfterStep limits z g σ st (mapped answer_of (effect_of z cells st)) (left_by (settled z cells) cells (effect_of z cells st))
+      → AfterStep st (mapped answer_of (effect_of z cells st)) (left_by (settled z cells) cells (effect_of z cells st))
   effect_next st h k =
       record {
-        ghosts = ghost_after st;
-        slots = λ t. after_at z (off_of cells) t (σ t) st;
         moment =
             record {
+              ghosts = ghost_after st;
+              slots = λ t. after_at z (off_of cells) t (σ t) st;
               whole = effect_kept limits z cells now.whole st h k;
               alike =
                   λ t l.
-                  alike_then (after_alike_at st h t l) (slot_tie z cells now.whole.range.row st h t l);
+                  alike_then (after_alike_at st h t l) (whole_tie limits z cells now.whole st h k t l);
               holds = Holds-after st h;
             };
         moves = moves_after st h;
@@ -134,23 +139,20 @@ module _ (limits : List ℕ) (z : Sizes) (cells : List ℕ) (g : ℕ → Ghost) 
             chooses_map (move_of t st (mapped answer_of (effect_of z cells st))) _ _ (λ p c. c.within z (in_view z st h)) (chooser t st (mapped answer_of (effect_of z cells st)));
       }
 
-  refused_next : (st : Step) (n : Refusal) → AfterStep limits z g σ st (Err n) cells
+  refused_next : (st : Step) (n : Refusal) → AfterStep st (Err n) cells
   refused_next st n =
       record {
-        ghosts = g;
-        slots = σ;
         moment = now;
         moves = λ t l. resting t (g t) (σ t) st (Err n) (refused_rests t st n);
         within = λ t. rw (refused_rests t st n) tt;
       }
 
-module _ (limits : List ℕ) (z : Sizes) (cells : List ℕ) (g : ℕ → Ghost) (σ : ℕ → Slot) (now : Moment limits z cells g σ) where
   -- what a judgement leads to
   abbrev Leads : Step → Result Effect Refusal → Type 0
-  Leads st e = AfterStep limits z g σ st (mapped answer_of e) (left_by (settled z cells) cells e)
+  Leads st e = AfterStep st (mapped answer_of e) (left_by (settled z cells) cells e)
 
   leads_refused : (st : Step) (n : Refusal) → Leads st (Err n)
-  leads_refused st n = refused_next limits z cells g σ now st n
+  leads_refused st n = refused_next st n
 
   leads_effect
       : (st : Step) → places_fit (sizes_of cells) st ≡ true → command_fits (limits_of cells) st ≡ true
@@ -158,7 +160,7 @@ module _ (limits : List ℕ) (z : Sizes) (cells : List ℕ) (g : ℕ → Ghost) 
   leads_effect st b c =
       let same = now.whole.sizes in
       subst (λ (y : Sizes). Leads st (effect_of y cells st)) (sym same)
-      (effect_next limits z cells g σ now st (ap (λ (y : Sizes). places_fit y st) (sym same) ∙ b)
+      (effect_next st (ap (λ (y : Sizes). places_fit y st) (sym same) ∙ b)
       (ap (λ (l : List ℕ). command_fits l st) (sym now.whole.table) ∙ c))
 
   leads_judged : (st : Step) → Leads st (judged cells st)
@@ -178,15 +180,15 @@ module _ (limits : List ℕ) (z : Sizes) (cells : List ℕ) (g : ℕ → Ghost) 
   -- the effect is stored by the room's own sizes
   stored
       : (st : Step) (e : Result Effect Refusal) → Leads st e
-      → AfterStep limits z g σ st (mapped answer_of e) (left_by (settled (sizes_of cells) cells) cells e)
+      → AfterStep st (mapped answer_of e) (left_by (settled (sizes_of cells) cells) cells e)
   stored st e l =
-      subst (λ (y : Sizes). AfterStep limits z g σ st (mapped answer_of e) (left_by (settled y cells) cells e))
+      subst (λ (y : Sizes). AfterStep st (mapped answer_of e) (left_by (settled y cells) cells e))
       (sym now.whole.sizes) l
 
   -- a call leads from a moment to the next
-  pub next : (c : Call) → After limits z g σ (event_of cells c) (called cells c)
+  pub next : (c : Call) → After (event_of cells c) (called cells c)
   unfolding answered stepped put_answered put_cells output_by
   next (Steps st) = stored st (judged cells st) (leads_judged st)
   next (Asks p) =
-      record { ghosts = g; slots = σ; moment = now; moves = λ t l. rests (g t) (σ t); within = λ t. tt }
+      record { moment = now; moves = λ t l. rests (g t) (σ t); within = λ t. tt }
   next (Puts p s v) = stored (Offer p s v) (put_judged cells p s v) (leads_put p s v)

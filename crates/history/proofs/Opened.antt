@@ -1,7 +1,7 @@
 -- A room just opened is a moment: every record is that of a failed server, every block is blank, and nothing has happened.
 use Prim.Native.Nat.{ℕ, suc, ◌+◌, ◌-◌, ◌*◌, ◌<◌, ◌≤◌}
 use mathlib.Core.Path.{◌≡◌, refl, ◌∙◌, sym, ap}
-use mathlib.Core.Bool.{true}
+use mathlib.Core.Bool.{Bool, true}
 use mathlib.Core.List.{List, ◌++◌}
 use native.Mathlib.Omega.{arith}
 use native.Mathlib.Decide.{dec_lt}
@@ -24,7 +24,8 @@ use Rattle.layout.proofs.PlaceLaws.{base_room, base_server, base_nth}
 use Rattle.range.specs.Range.{legal_drives, masks_of, value_fits, server_fits, block_fits}
 use Rattle.range.proofs.RecordLaws.{BlockIn, says_server, says_block, zero_fits}
 use Rattle.room.specs.Open.{opened_cells}
-use Rattle.step_laws.proofs.RulesKeep.{failed_in}
+use Rattle.model.proofs.RulesKeep.{failed_in}
+use Rattle.step_laws.proofs.StepKeeps.{WholeBy}
 use Rattle.history.proofs.Moments.{Moment}
 
 zeros_at : (n i : ℕ) → ◌≡◌ {A = ℕ} (get_or (replicate n 0) i 0) 0
@@ -68,34 +69,43 @@ module _ (z : Sizes) (limits : List ℕ) (eight : length limits ≡ cabinets) wh
       let e = length-replicate {A = ℕ} (room_length z - base) 0 in
       omega (arith, base_room z f, length-append limits zeros)
 
-blank_in : (limits : List ℕ) → BlockIn limits blank
-blank_in limits = record { mbal = omega arith; bal = omega arith; inp = zero_fits limits; done = zero_fits limits }
+blank_in : (value : ℕ → Bool) → value 0 ≡ true → BlockIn value blank
+blank_in value nought = record { mbal = omega arith; bal = omega arith; inp = nought; done = nought }
 
-pub opens
+-- a room just opened is in range, by any test of a value that 0 passes
+pub opened_whole
+    : (value : ℕ → Bool) → value 0 ≡ true → (z : Sizes) (limits : List ℕ) → Fit z → length limits ≡ cabinets
+    → limits_fit limits ≡ true → WholeBy limits value z (opened_cells z limits)
+unfolding server_of opened_cells
+opened_whole value nought z limits f eight hoards =
+    record {
+      range =
+          record {
+            row = record { fit = f; exact = opened-length z limits eight f };
+            hoards = hoards;
+            off = within-zero (legal_drives z);
+            servers =
+                λ s p h l.
+                ap (λ (v : Server). server_fits value (masks_of z) v) (opened_server z limits eight (server_at z s p) (base_server z f s p))
+                ∙ says_server value (masks_of z) failed (failed_in value nought z);
+            nths =
+                λ s k h l.
+                ap (block_fits value) (opened_block z limits eight (nth_block_at z s k) (base_nth z f s k))
+                ∙ says_block value blank (blank_in value nought);
+          };
+      sizes = refl;
+      table = opened_limits z limits eight;
+    }
+
+unfoldable pub opens
     : (z : Sizes) (limits : List ℕ) → Fit z → length limits ≡ cabinets → limits_fit limits ≡ true
-    → Moment limits z (opened_cells z limits) (λ t. no_ghost) (λ t. blank_slot)
+    → Moment limits z (opened_cells z limits)
 unfolding server_of block_of block_at
 opens z limits f eight hoards =
     record {
-      whole =
-          record {
-            range =
-                record {
-                  row = record { fit = f; exact = opened-length z limits eight f };
-                  hoards = hoards;
-                  off = unfold opened_cells in within-zero (legal_drives z);
-                  servers =
-                      λ s p h l.
-                      ap (λ (v : Server). server_fits (value_fits limits) (masks_of z) v) (opened_server z limits eight (server_at z s p) (base_server z f s p))
-                      ∙ says_server limits (masks_of z) failed (failed_in limits z);
-                  nths =
-                      λ s k h l.
-                      ap (block_fits (value_fits limits)) (opened_block z limits eight (nth_block_at z s k) (base_nth z f s k))
-                      ∙ says_block limits blank (blank_in limits);
-                };
-            sizes = unfold opened_cells in refl;
-            table = opened_limits z limits eight;
-          };
+      ghosts = λ t. no_ghost;
+      slots = λ t. blank_slot;
+      whole = opened_whole (value_fits limits) (zero_fits limits) z limits f eight hoards;
       alike =
           λ t h p l.
           record {

@@ -6,8 +6,6 @@ use mathlib.Core.Bool.{true}
 use mathlib.Core.List.{List, [], ◌∷◌}
 use Rattle.state.specs.declared.Sizes.{Sizes}
 use Rattle.state.specs.Server.{offer_of, output_of}
-use Rattle.synod.proofs.Past.{Ghost}
-use Rattle.synod.specs.Slot.{Slot}
 use Rattle.synod.proofs.Agreement.{agree, output_committed}
 use Rattle.synod.proofs.Outputs.{outputs}
 use Rattle.layout.specs.Cells.{sizes_of, server_of}
@@ -29,115 +27,88 @@ pub record Shown (z : Sizes) (first : ℕ → ℕ) (room : List ℕ) : Type 0 wh
       : (t p : ℕ) → t < z.slots → p < z.servers → (output_of (server_of z room t p) ≡ 0 → ⊥)
       → output_of (server_of z room t p) ≡ first t
 
+-- all that is told of a whole run, by the first output of each slot
+pub record Told (limits : List ℕ) (z : Sizes) (first : ℕ → ℕ) (cells : List ℕ) (now : Moment limits z cells) (calls : List Call) : Type 0 where
+  pub follows : (t : ℕ) → t < z.slots → Follows z t (machine_of (now.ghosts t) (now.slots t)) cells calls
+  pub early : (t : ℕ) → t < z.slots → OfferedEarlier t (now.ghosts t).offered (history cells calls)
+  pub commits : (t : ℕ) → t < z.slots → AllCommit t (first t) (history cells calls)
+  pub outputs : (t : ℕ) → t < z.slots → CommitsOutput z t cells calls
+  pub shown : Always (Shown z first) cells calls
+
 module _ (limits : List ℕ) (z : Sizes) where
-  equal_at
-      : (cells : List ℕ) (g : ℕ → Ghost) (σ : ℕ → Slot) → Moment limits z cells g σ → (t : ℕ) → t < z.slots
-      → Equal z t (machine_of (g t) (σ t)) cells
-  equal_at cells g σ now t h =
-      record {
-        offers = λ p l. sym (ap offer_of (now.alike t h p l).own);
-        outputs = λ p l. sym (ap output_of (now.alike t h p l).own);
-      }
+  module _ (cells : List ℕ) (now : Moment limits z cells) (t : ℕ) (h : t < z.slots) where
+    same_output : (p : ℕ) → p < z.servers → output_of (now.slots t p).own ≡ output_of (server_of z cells t p)
+    same_output p l = ap output_of (now.alike t h p l).own
 
-  pub follows
-      : (cells : List ℕ) (g : ℕ → Ghost) (σ : ℕ → Slot) → Moment limits z cells g σ → (calls : List Call)
-      → (t : ℕ) → t < z.slots → Follows z t (machine_of (g t) (σ t)) cells calls
-  follows cells g σ now [] t h = ends (equal_at cells g σ now t h)
-  follows cells g σ now (c ∷ cs) t h =
-      let n = next limits z cells g σ now c in
-      goes (equal_at cells g σ now t h) (n.moves t h).makes (follows (called cells c) n.ghosts n.slots n.moment cs t h)
+    equal_at : Equal z t (machine_of (now.ghosts t) (now.slots t)) cells
+    equal_at = record { offers = λ p l. sym (ap offer_of (now.alike t h p l).own); outputs = λ p l. sym (same_output p l) }
 
-  pub offered_earlier
-      : (cells : List ℕ) (g : ℕ → Ghost) (σ : ℕ → Slot) → Moment limits z cells g σ → (calls : List Call)
-      → (t : ℕ) → t < z.slots → OfferedEarlier t (g t).offered (history cells calls)
-  unfolding history OfferedEarlier output_by
-  offered_earlier cells g σ now [] t h = tt
-  offered_earlier cells g σ now (c ∷ cs) t h =
-      let n = next limits z cells g σ now c in (
-        (n.moves t h).early,
-        subst (λ (l : List ℕ). OfferedEarlier t l (history (called cells c) cs)) (n.moves t h).hears
-            (offered_earlier (called cells c) n.ghosts n.slots n.moment cs t h),
-      )
+    -- after a call that chooses, the room's output is the answer's command
+    output_answered
+        : (m : Move) (out : ℕ) → WhenChooses m (λ p. p < z.servers) → WhenChooses m (λ p. outputs (now.slots t) p ≡ out)
+        → WhenChooses m (λ p. output_of (server_of z cells t p) ≡ out)
+    output_answered (Offers p v) out l e = tt
+    output_answered (Chooses p) out l e = sym (same_output p l) ∙ e
+    output_answered (Fails p) out l e = tt
+    output_answered Rests out l e = tt
 
-  pub all_commit
-      : (cells : List ℕ) (g : ℕ → Ghost) (σ : ℕ → Slot) → Moment limits z cells g σ → (calls : List Call) (t : ℕ) → t < z.slots
-      → (v : ℕ) → v ≡ or_else (first_command (g t).commits) (first_output t (history cells calls)) → AllCommit t v (history cells calls)
-  unfolding history first_output output_by AllCommit
-  all_commit cells g σ now [] t h v e = tt
-  all_commit cells g σ now (c ∷ cs) t h v e =
-      let n = next limits z cells g σ now c in
-      let out = output_by t (event_of cells c) in
-      let rest = first_output t (history (called cells c) cs) in
-      let e2 : v ≡ or_else (first_command (n.ghosts t).commits) rest =
-      e ∙ sym (or_assoc (first_command (g t).commits) out rest) ∙ ap (λ (x : ℕ). or_else x rest) (sym (n.moves t h).first) in (
-        chooses_map (move_in t (event_of cells c)) _ _
-            (λ p a.
-            let is : v ≡ out = e2 ∙ ap (λ (x : ℕ). or_else x rest) (sym a.0) ∙ or_some out rest a.1 in
-            (sym is, λ k. a.1 (sym is ∙ k)))
-            (n.moves t h).agrees,
-        all_commit (called cells c) n.ghosts n.slots n.moment cs t h v e2,
-      )
-
-  -- after a call that chooses, the room's output is the answer's command
-  output_answered
-      : (cells : List ℕ) (g : ℕ → Ghost) (σ : ℕ → Slot) → Moment limits z cells g σ → (t : ℕ) → t < z.slots
-      → (m : Move) (out : ℕ) → WhenChooses m (λ p. p < z.servers) → WhenChooses m (λ p. outputs (σ t) p ≡ out)
-      → WhenChooses m (λ p. output_of (server_of z cells t p) ≡ out)
-  output_answered cells g σ now t h (Offers p v) out l e = tt
-  output_answered cells g σ now t h (Chooses p) out l e = sym (ap output_of (now.alike t h p l).own) ∙ e
-  output_answered cells g σ now t h (Fails p) out l e = tt
-  output_answered cells g σ now t h Rests out l e = tt
-
-  pub commits_output
-      : (cells : List ℕ) (g : ℕ → Ghost) (σ : ℕ → Slot) → Moment limits z cells g σ → (calls : List Call)
-      → (t : ℕ) → t < z.slots → CommitsOutput z t cells calls
-  unfolding CommitsOutput
-  commits_output cells g σ now [] t h = tt
-  commits_output cells g σ now (c ∷ cs) t h =
-      let n = next limits z cells g σ now c in (
-        output_answered (called cells c) n.ghosts n.slots n.moment t h (move_in t (event_of cells c))
-            (output_by t (event_of cells c)) (n.within t) (n.moves t h).shows,
-        commits_output (called cells c) n.ghosts n.slots n.moment cs t h,
-      )
-
-  -- an output is the slot's first commit
-  output_first
-      : (cells : List ℕ) (g : ℕ → Ghost) (σ : ℕ → Slot) → Moment limits z cells g σ → (t p : ℕ) → t < z.slots
-      → p < z.servers → (output_of (server_of z cells t p) ≡ 0 → ⊥) → first_command (g t).commits ≡ output_of (server_of z cells t p)
-  output_first cells g σ now t p h l n =
-      let same = ap output_of (now.alike t h p l).own in
-      let by = output_committed (now.holds t h) p l (λ e. n (sym same ∙ e)) in
-      let this = by.committed in
-      first_of (g t).commits (output_of (server_of z cells t p)) n
-      (λ u m. agree (now.holds t h) m this ∙ same) _ this
+    -- an output is the slot's first commit
+    output_first
+        : (p : ℕ) → p < z.servers → (output_of (server_of z cells t p) ≡ 0 → ⊥)
+        → first_command (now.ghosts t).commits ≡ output_of (server_of z cells t p)
+    output_first p l n =
+        let this = (output_committed (now.holds t h) p l (λ e. n (sym (same_output p l) ∙ e))).committed in
+        first_of (now.ghosts t).commits (output_of (server_of z cells t p)) n
+        (λ u m. agree (now.holds t h) m this ∙ same_output p l) _ this
 
   shown_now
-      : (cells : List ℕ) (g : ℕ → Ghost) (σ : ℕ → Slot) → Moment limits z cells g σ → (first later : ℕ → ℕ)
-      → ((t : ℕ) → t < z.slots → first t ≡ or_else (first_command (g t).commits) (later t)) → Shown z first cells
-  shown_now cells g σ now first later e =
+      : (cells : List ℕ) (now : Moment limits z cells) (first later : ℕ → ℕ)
+      → ((t : ℕ) → t < z.slots → first t ≡ or_else (first_command (now.ghosts t).commits) (later t)) → Shown z first cells
+  shown_now cells now first later e =
       record {
         range = Says-range limits z cells (sym now.whole.table) (sym now.whole.sizes) now.whole.range;
         sizes = now.whole.sizes;
         outputs =
             λ t p h l n.
-            let f = output_first cells g σ now t p h l n in
-            sym (e t h ∙ ap (λ (x : ℕ). or_else x (later t)) f ∙ or_some (output_of (server_of z cells t p)) (later t) n);
+            sym
+            (e t h
+            ∙ ap (λ (x : ℕ). or_else x (later t)) (output_first cells now t h p l n)
+            ∙ or_some (output_of (server_of z cells t p)) (later t) n);
       }
 
-  pub shown
-      : (cells : List ℕ) (g : ℕ → Ghost) (σ : ℕ → Slot) → Moment limits z cells g σ → (calls : List Call) (first : ℕ → ℕ)
-      → ((t : ℕ) → t < z.slots → first t ≡ or_else (first_command (g t).commits) (first_output t (history cells calls)))
-      → Always (Shown z first) cells calls
-  unfolding Always history first_output output_by
-  shown cells g σ now [] first e = shown_now cells g σ now first (λ t. 0) e
-  shown cells g σ now (c ∷ cs) first e =
-      let n = next limits z cells g σ now c in
+  pub told
+      : (first : ℕ → ℕ) (cells : List ℕ) (now : Moment limits z cells) (calls : List Call)
+      → ((t : ℕ) → t < z.slots → first t ≡ or_else (first_command (now.ghosts t).commits) (first_output t (history cells calls)))
+      → Told limits z first cells now calls
+  unfolding Always history OfferedEarlier AllCommit CommitsOutput first_output output_by
+  told first cells now [] e =
+      record {
+        follows = λ t h. ends (equal_at cells now t h);
+        early = λ t h. tt;
+        commits = λ t h. tt;
+        outputs = λ t h. tt;
+        shown = shown_now cells now first (λ t. 0) e;
+      }
+  told first cells now (c ∷ cs) e =
+      let n = next limits z cells now c in
       let out : ℕ → ℕ = λ t. output_by t (event_of cells c) in
-      let rest : ℕ → ℕ = λ t. first_output t (history (called cells c) cs) in (
-        shown_now cells g σ now first (λ t. or_else (out t) (rest t)) e,
-        shown (called cells c) n.ghosts n.slots n.moment cs first
-            (λ t h.
-            e t h
-            ∙ sym (or_assoc (first_command (g t).commits) (out t) (rest t))
-            ∙ ap (λ (x : ℕ). or_else x (rest t)) (sym (n.moves t h).first)),
-      )
+      let rest : ℕ → ℕ = λ t. first_output t (history (called cells c) cs) in
+      let all : (t : ℕ) → t < z.slots → first t ≡ or_else (first_command (n.moment.ghosts t).commits) (rest t)
+      = λ t h. e t h ∙ sym (or_assoc (first_command (now.ghosts t).commits) (out t) (rest t)) ∙ ap (λ (x : ℕ). or_else x (rest t)) (sym (n.moves t h).first) in
+      let later = told first (called cells c) n.moment cs all in
+      record {
+        follows = λ t h. goes (equal_at cells now t h) (n.moves t h).makes (later.follows t h);
+        early =
+            λ t h. ((n.moves t h).early, subst (λ (l : List ℕ). OfferedEarlier t l (history (called cells c) cs)) (n.moves t h).hears (later.early t h));
+        commits =
+            λ t h.
+            (chooses_map (move_in t (event_of cells c)) _ _
+            (λ p a.
+            let is : first t ≡ out t = all t h ∙ ap (λ (x : ℕ). or_else x (rest t)) (sym a.0) ∙ or_some (out t) (rest t) a.1 in
+            (sym is, λ k. a.1 (sym is ∙ k)))
+            (n.moves t h).agrees, later.commits t h);
+        outputs =
+            λ t h.
+            (output_answered (called cells c) n.moment t h (move_in t (event_of cells c)) (out t) (n.within t) (n.moves t h).shows, later.outputs t h);
+        shown = (shown_now cells now first (λ t. or_else (out t) (rest t)) e, later.shown);
+      }

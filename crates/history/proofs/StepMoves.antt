@@ -19,8 +19,8 @@ use Rattle.synod.specs.Slot.{Slot, Config, config_of}
 use Rattle.synod.proofs.Invariant.{Invariant}
 use Rattle.synod.proofs.Kept.{kept}
 use Rattle.synod.proofs.Outputs.{outputs, offers, told, outputs_at, outputs_after, offers_at, offers_after, outputs_told, offers_told, word_of, view_server, none_before}
-use Rattle.step_laws.specs.Concerns.{concerns_at, concerns}
-use Rattle.step_laws.proofs.Answering.{answer_by}
+use Rattle.model.specs.Concerns.{concerns_at, concerns}
+use Rattle.room.proofs.Answering.{answer_by}
 use Rattle.history.specs.Run.{Move, Offers, Chooses, Fails, Rests, committed, move_at, move_of, output_in}
 use Rattle.history.proofs.Firsts.{or_zero, first_command}
 use Rattle.history.proofs.SlotMoves.{Moves, rests, listens}

@@ -1,19 +1,18 @@
 -- What is read after cells are stored: at the place itself, and at any place apart from it.
-use Prim.Native.Nat.{ℕ, zero, suc, ◌+◌, ◌-◌, ◌<◌, ◌≤◌, min}
+use Prim.Native.Nat.{ℕ, zero, suc, ◌+◌, ◌<◌, ◌≤◌}
 use mathlib.Core.Path.{◌≡◌, refl, ◌∙◌, sym, ap}
 use mathlib.Core.List.{List, [], ◌∷◌, ◌++◌}
 use mathlib.Core.Logic.{◌⊎◌, ⊎_elim}
 use native.Mathlib.Omega.{arith}
 use native.Mathlib.Nat.{add-zero}
-use lib.ListN.{length, get_or, set, take, drop, length-set, length-take}
+use lib.ListN.{length, get_or, set, take, drop, length-set}
 use Rattle.std.proofs.lemmas.List.{get_or-take, get_or-drop, append_assoc, length-drop}
 use borrow.Rule.Slice.PartMut.{put_mid}
-use lib.Seq.{sets, sets-eq, ext_get_or, length-sets, drop-drop, length-take-le, get_or-set_same, get_or-set_other}
+use lib.Seq.{sets, sets-eq, length-sets, drop-drop, length-take-le, get_or-set_same, get_or-set_other}
 use Rattle.state.specs.declared.Block.{Block}
 use Rattle.state.specs.declared.Server.{Server}
 use Rattle.layout.specs.Places.{server_length, block_length}
 use Rattle.layout.specs.Cells.{put, put_from, server_in, server_cells, block_in, block_cells}
-use Rattle.layout.proofs.PlaceLaws.{Apart}
 
 -- what is stored is the library's run of stores
 from_sets : (xs r : List ℕ) (at k : ℕ) → put_from r at k xs ≡ sets r (at + k) xs
@@ -102,82 +101,9 @@ Block-read r at b each =
     let d = each 3 (omega arith) in
     λ i. record { mbal = f i; bal = a i; inp = c i; done = d i }
 
--- what was stored at a place is read there
-pub put_server_lem : (r : List ℕ) (at : ℕ) (v : Server) → at + server_length ≤ length r → server_in (put r at (server_cells v)) at ≡ v
-put_server_lem r at v h = server_read (put r at (server_cells v)) at v (λ i l. put_at r at (server_cells v) i l h)
-
-pub put_block_lem : (r : List ℕ) (at : ℕ) (b : Block) → at + block_length ≤ length r → block_in (put r at (block_cells b)) at ≡ b
-put_block_lem r at b h = Block-read (put r at (block_cells b)) at b (λ i l. put_at r at (block_cells b) i l h)
-
--- two rows have the same n cells from a place on
-unfoldable pub Same : List ℕ → List ℕ → ℕ → ℕ → Type 0
-Same r t at n = (i : ℕ) → i < n → get_or r (at + i) 0 ≡ get_or t (at + i) 0
-
-first_cell : (r t : List ℕ) (at n : ℕ) → 0 < n → Same r t at n → get_or r at 0 ≡ get_or t at 0
-unfolding Same
-first_cell r t at n h s =
-    ap (λ (j : ℕ). get_or r j 0) (sym (add-zero at)) ∙ s 0 h ∙ ap (λ (j : ℕ). get_or t j 0) (add-zero at)
-
-pub server_same : (r t : List ℕ) (at : ℕ) → Same r t at server_length → server_in r at ≡ server_in t at
-unfolding Same
-server_same r t at s =
-    let f = first_cell r t at server_length (omega arith) s in
-    let a = s 1 (omega arith) in
-    let b = s 2 (omega arith) in
-    let c = s 3 (omega arith) in
-    let d = s 4 (omega arith) in
-    let e = s 5 (omega arith) in
-    let g = s 6 (omega arith) in
-    let h = s 7 (omega arith) in
-    let k = s 8 (omega arith) in
-    let l = s 9 (omega arith) in
-    let m = s 10 (omega arith) in
-    λ i.
-    record {
-      phase = f i;
-      mbal = a i;
-      bal = b i;
-      inp = c i;
-      offer = d i;
-      top = e i;
-      seenbal = g i;
-      seeninp = h i;
-      written = k i;
-      read = l i;
-      agreed = m i;
-    }
-
-pub block_same : (r t : List ℕ) (at : ℕ) → Same r t at block_length → block_in r at ≡ block_in t at
-unfolding Same
-block_same r t at s =
-    let f = first_cell r t at block_length (omega arith) s in
-    let a = s 1 (omega arith) in
-    let b = s 2 (omega arith) in
-    let c = s 3 (omega arith) in
-    λ i. record { mbal = f i; bal = a i; inp = b i; done = c i }
-
--- a store apart from a place leaves its cells
-pub apart_same : (r : List ℕ) (at : ℕ) (xs : List ℕ) (b n : ℕ) → Apart at (length xs) b n → Same (put r at xs) r b n
-unfolding Same Apart
-apart_same r at xs b n h i l =
-    put_outside r at xs (b + i)
-    (⊎_elim (λ e. mathlib.Core.Logic.inr (omega arith)) (λ e. mathlib.Core.Logic.inl (omega arith)) h)
-
 -- a record or a block is read from its own cells alone
 part_cell : (r : List ℕ) (at n i j : ℕ) → i < n → at + i ≡ j → get_or (take n (drop at r)) i 0 ≡ get_or r j 0
 part_cell r at n i j h e = get_or-take n (drop at r) i 0 h ∙ get_or-drop at r i 0 ∙ ap (λ (k : ℕ). get_or r k 0) e
-
--- rows of one length that have the same n cells from a place on have them as the same part
-pub part_same : (r t : List ℕ) (at n : ℕ) → length r ≡ length t → Same r t at n → take n (drop at r) ≡ take n (drop at t)
-unfolding Same
-part_same r t at n e s =
-    let rest : length (drop at r) ≡ length (drop at t) =
-    length-drop at r ∙ ap (λ (m : ℕ). m - at) e ∙ sym (length-drop at t) in
-    ext_get_or 0 (take n (drop at r)) (take n (drop at t))
-    (length-take n (drop at r) ∙ ap (λ (m : ℕ). min n m) rest ∙ sym (length-take n (drop at t)))
-    (λ i h.
-    let l : i < n = omega (arith, length-take n (drop at r)) in
-    part_cell r at n i (at + i) l refl ∙ s i l ∙ sym (part_cell t at n i (at + i) l refl))
 
 pub server_moved : (r : List ℕ) (at : ℕ) → server_in (take server_length (drop at r)) 0 ≡ server_in r at
 server_moved r at =

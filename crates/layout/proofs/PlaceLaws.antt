@@ -3,9 +3,7 @@ use Prim.Native.Nat.{ℕ, ◌+◌, ◌*◌, ◌<◌, ◌≤◌}
 use mathlib.Core.Path.{◌≡◌, ap}
 use mathlib.Core.Bool.{true, ◌&&◌}
 use mathlib.Core.List.{List}
-use mathlib.Core.Logic.{◌⊎◌, inl, inr}
 use native.Mathlib.Omega.{arith}
-use native.Mathlib.Decide.{dec_lt}
 use native.Mathlib.Nat.{mul-le-mul_right, mul-le-mul}
 use lib.Arith.{digits_lt}
 use lib.Dec.{leb, ltb}
@@ -106,13 +104,6 @@ module _ (z : Sizes) (fit : Fit z) where
   unfolding slot_at room_length
   within_room s o n h l = omega (arith, slots_within s h)
 
-  -- a part of an earlier slot ends before a part of a later one
-  across : (s t o n m : ℕ) → s < t → o + n ≤ slot_length z → slot_at z s + o + n ≤ slot_at z t + m
-  unfolding slot_at
-  across s t o n m h l =
-      let k : s + 1 ≤ t = omega arith in
-      omega (arith, mul-le-mul_right (slot_length z) k)
-
   -- the parts of slot s, in the code's own terms: l is the slot's length and n the room's
   pub slot_within
       : (s l n : ℕ) → l ≡ slot_length z → s < z.slots → n ≡ room_length z
@@ -188,84 +179,3 @@ module _ (z : Sizes) (cells : List ℕ) (row : Row z cells) where
       : (at s d p : ℕ) → at ≡ block_at z s d p → s < z.slots → d < z.drives → p < z.servers
       → Inside cells at block_length
   block_inside at s d p e h l k = inside at (block_at z s d p) block_length e (block_within z row.fit s d p h l k)
-
--- n cells at a and m cells at b have none in common
-unfoldable pub Apart : ℕ → ℕ → ℕ → ℕ → Type 0
-Apart a n b m = (a + n ≤ b) ⊎ (b + m ≤ a)
-
--- two numbers that differ are in one order or the other
-pub ordered {ℓ} : {X : Type ℓ} (a b : ℕ) → (a ≡ b → ⊥) → (a < b → X) → (b < a → X) → X
-ordered {X = X} a b n f g = go (dec_lt a b)
-  where
-    go : Dec (a < b) → X
-    go (yes l) = f l
-    go (no l) = g (omega arith)
-
-module _ (z : Sizes) (fit : Fit z) where
-  -- parts of two different slots
-  slots_apart
-      : (s t o n u m : ℕ) → (s ≡ t → ⊥) → o + n ≤ slot_length z → u + m ≤ slot_length z
-      → Apart (slot_at z s + o) n (slot_at z t + u) m
-  unfolding Apart
-  slots_apart s t o n u m h l k =
-      ordered s t h
-      (λ b. inl (across z fit s t o n u b l))
-      (λ b. inr (across z fit t s u m o b k))
-
-  pub servers_apart
-      : (s p t q : ℕ) → p < z.servers → q < z.servers → (s ≡ t → p ≡ q → ⊥)
-      → Apart (server_at z s p) server_length (server_at z t q) server_length
-  unfolding server_at Apart
-  servers_apart s p t q l k h = go (native.Mathlib.Decide.ℕ_discrete s t)
-    where
-      go : Dec (s ≡ t) → Apart (slot_at z s + server_length * p) server_length (slot_at z t + server_length * q) server_length
-      go (yes e) =
-          let f : slot_at z s ≡ slot_at z t = ap (slot_at z) e in
-          ordered p q (h e) (λ b. inl (omega arith)) (λ b. inr (omega arith))
-      go (no e) =
-          slots_apart s t (server_length * p) server_length (server_length * q) server_length e
-          (record_in_slot z fit p l) (record_in_slot z fit q k)
-
-  pub nths_apart
-      : (s k t j : ℕ) → k < z.drives * z.servers → j < z.drives * z.servers → (s ≡ t → k ≡ j → ⊥)
-      → Apart (nth_block_at z s k) block_length (nth_block_at z t j) block_length
-  unfolding nth_block_at Apart
-  nths_apart s k t j l m h = go (native.Mathlib.Decide.ℕ_discrete s t)
-    where
-      front : ℕ
-      front = server_length * z.servers
-
-      regroup : (u i : ℕ) → slot_at z u + front + block_length * i ≡ slot_at z u + (front + block_length * i)
-      regroup u i = omega arith
-
-      go
-          : Dec (s ≡ t)
-          → Apart (slot_at z s + front + block_length * k) block_length (slot_at z t + front + block_length * j) block_length
-      go (yes e) =
-          let f : slot_at z s ≡ slot_at z t = ap (slot_at z) e in
-          ordered k j (h e) (λ b. inl (omega arith)) (λ b. inr (omega arith))
-      go (no e) =
-          rw (regroup s k, regroup t j)
-          (slots_apart s t (front + block_length * k) block_length (front + block_length * j) block_length e
-          (block_in_slot z fit k l) (block_in_slot z fit j m))
-
-  pub server_nth_apart
-      : (s p t k : ℕ) → p < z.servers → k < z.drives * z.servers
-      → Apart (server_at z s p) server_length (nth_block_at z t k) block_length
-  unfolding server_at nth_block_at Apart
-  server_nth_apart s p t k l m = go (native.Mathlib.Decide.ℕ_discrete s t)
-    where
-      front : ℕ
-      front = server_length * z.servers
-
-      regroup : slot_at z t + front + block_length * k ≡ slot_at z t + (front + block_length * k)
-      regroup = omega arith
-
-      go : Dec (s ≡ t) → Apart (slot_at z s + server_length * p) server_length (slot_at z t + front + block_length * k) block_length
-      go (yes e) =
-          let f : slot_at z s ≡ slot_at z t = ap (slot_at z) e in
-          inl (omega arith)
-      go (no e) =
-          rw regroup
-          (slots_apart s t (server_length * p) server_length (front + block_length * k) block_length e
-          (record_in_slot z fit p l) (block_in_slot z fit k m))

@@ -19,7 +19,7 @@ use Rattle.layout.specs.Cells.{sizes_of, limits_of, off_of}
 use Rattle.range.specs.Range.{in_range}
 use Rattle.room.specs.Judge.{seen}
 use Rattle.room.specs.Step.{answered, stepped}
-use Rattle.step_laws.specs.Concerns.{concerns, concerns_at}
+use Rattle.model.specs.Concerns.{concerns, concerns_at}
 use Rattle.step_laws.proofs.ByRule.{answered_by_rule, slot_by_rule}
 use Rattle.step_laws.proofs.OffMarks.{SwitchesNone, off_stays}
 use Rattle.step_laws.proofs.Slots.{after_at}

@@ -26,7 +26,7 @@ use Rattle.range.specs.Range.{in_range}
 use Rattle.range.proofs.Laws.{range_says}
 use Rattle.room.specs.Judge.{seen}
 use Rattle.room.specs.Step.{answered, stepped}
-use Rattle.step_laws.specs.Concerns.{concerns}
+use Rattle.model.specs.Concerns.{concerns}
 use Rattle.step_laws.proofs.ByRule.{answered_by_rule}
 use Rattle.step_laws.proofs.StepKeeps.{step_in_range, step_limits}
 use Rattle.synod.specs.Rules.{is_on}

@@ -20,7 +20,7 @@ use Rattle.history.specs.Calls.{Call}
 use Rattle.history.specs.Run.{history, first_output}
 use Rattle.history.proofs.Always.{always_map}
 use Rattle.history.proofs.Opened.{opens}
-use Rattle.history.proofs.Runs.{follows, offered_earlier, all_commit, commits_output, Shown, shown}
+use Rattle.history.proofs.Runs.{Shown, told}
 use Rattle.catalogue.specs.Fold.{folded, start}
 use Rattle.catalogue.specs.Outputs.{output_at, leading, outputs_of}
 use Rattle.catalogue.specs.Call.{entries_of, counted}
@@ -65,19 +65,18 @@ module _ (z : Sizes) (first : ℕ → ℕ) (room : List ℕ) (s : Shown z first 
 from_opened
     : (z : Sizes) (limits : List ℕ) → Fit z → length limits ≡ cabinets → limits_fit limits ≡ true → (calls : List Call)
     → OneHistory z (opened_cells z limits) calls
-unfolding commands_of
+unfolding commands_of opens
 from_opened z limits fit eight hoards calls =
     let cells = opened_cells z limits in
     let now = opens z limits fit eight hoards in
     let first : ℕ → ℕ = λ t. first_output t (history cells calls) in
+    let run = told limits z first cells now calls (λ t h. refl) in
     record {
-      machines = follows limits z cells (λ t. no_ghost) (λ t. blank_slot) now calls;
-      catalogues =
-          always_map (Shown z first) (AllShow z (leading first 0 z.slots)) (shows z first) cells calls
-          (shown limits z cells (λ t. no_ghost) (λ t. blank_slot) now calls first (λ t h. refl));
-      outputs = commits_output limits z cells (λ t. no_ghost) (λ t. blank_slot) now calls;
-      agreed = λ t h. all_commit limits z cells (λ t. no_ghost) (λ t. blank_slot) now calls t h (first t) refl;
-      offered = offered_earlier limits z cells (λ t. no_ghost) (λ t. blank_slot) now calls;
+      machines = run.follows;
+      catalogues = always_map (Shown z first) (AllShow z (leading first 0 z.slots)) (shows z first) cells calls run.shown;
+      outputs = run.outputs;
+      agreed = run.commits;
+      offered = run.early;
     }
 
 -- DEMAND 3

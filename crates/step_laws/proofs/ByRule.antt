@@ -24,7 +24,7 @@ use Rattle.state.specs.declared.Sizes.{Sizes}
 use Rattle.step_laws.proofs.StepKeeps.{Whole}
 use Rattle.step_laws.proofs.Slots.{after_at}
 use Rattle.step_laws.proofs.SlotTie.{slot_tie}
-use Rattle.value.proofs.Answering.{answer_by, effect_answer}
+use Rattle.room.proofs.Answering.{answer_by, effect_answer}
 
 pub answered_by_rule
     : (r : List ℕ) (st : Step) (w : Server) (a : Answer) → in_range r ≡ true → places_fit (sizes_of r) st ≡ true

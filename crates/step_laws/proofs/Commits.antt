@@ -20,7 +20,7 @@ use Rattle.room.specs.Judge.{seen, rule_at, effect_of, answer_of}
 use Rattle.room.specs.Step.{answered}
 use Rattle.room.proofs.Checks.{by_checks}
 use Rattle.step_laws.specs.Committing.{IsFinish, IsRead, FinishOrRead}
-use Rattle.value.proofs.Answering.{answer_by, effect_answer}
+use Rattle.room.proofs.Answering.{answer_by, effect_answer}
 
 abbrev Commits : Step → Answered → Type 0
 Commits st a = code_of a ≡ 3 → FinishOrRead st

@@ -11,7 +11,7 @@ use Rattle.layout.specs.Cells.{sizes_of}
 use Rattle.room.specs.Judge.{seen}
 use Rattle.room.specs.Step.{settled, stepped}
 use Rattle.room.proofs.Checks.{by_checks}
-use Rattle.value.specs.Concerns.{concerns}
+use Rattle.model.specs.Concerns.{concerns}
 use Rattle.step_laws.proofs.Slots.{after_at}
 use Rattle.step_laws.proofs.SlotTie.{slot_tie}
 

@@ -1,13 +1,9 @@
 -- Laws of the whole step, for every row: what it refuses, what one that fits answers, which kind commits, that it keeps a room
 -- in range, what it leaves alone, and that only a drive step changes the off marks.
 pub mod Slots
-pub mod RulesKeep
-pub mod StoresKeep
 pub mod StepKeeps
-pub mod Seen
 pub mod SlotTie
 pub mod Lowest
-pub mod Answering
 pub mod Commits
 pub mod Frame
 pub mod OffMarks

@@ -7,8 +7,8 @@ use Rattle.state.specs.View.{View, AtSlot, AtServer, AtDrive, view_of}
 use Rattle.synod.specs.Rules.{off_after}
 use Rattle.layout.specs.Cells.{off_of}
 use Rattle.room.specs.Step.{stepped}
-use Rattle.value.specs.Encoding.{cells_of, room_by}
-use Rattle.value.proofs.Bridge.{by_step}
+use Rattle.model.specs.Encoding.{cells_of, room_by}
+use Rattle.room.proofs.Bridge.{by_step}
 
 -- a step that is no drive step
 abbrev pub SwitchesNone : View → Type 0

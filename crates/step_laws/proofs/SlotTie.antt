@@ -21,15 +21,14 @@ use Rattle.layout.specs.Cells.{sizes_of, limits_of, off_of}
 use Rattle.range.specs.Range.{in_range}
 use Rattle.room.specs.Judge.{seen, effect_of}
 use Rattle.room.specs.Step.{settled}
-use Rattle.value.specs.Concerns.{concerns_at, concerns}
-use Rattle.value.specs.Room.{Room, seen_at, seen_on, no_shelf}
-use Rattle.value.specs.Encoding.{shelf_of, cells_of, room_by}
-use Rattle.value.proofs.Bridge.{room, says, fits, plainly, record_in, by_effect}
-use Rattle.value.proofs.Decodes.{server_read, block_read}
-use Rattle.value.proofs.Held.{RoomIn}
-use Rattle.value.proofs.Shelves.{seen_alike, stored_in}
-use Rattle.value.proofs.Slots.{stored_seen, stored_held}
-use Rattle.value.proofs.Tables.{table_at}
+use Rattle.model.specs.Concerns.{concerns_at, concerns}
+use Rattle.model.specs.Room.{Room, seen_at}
+use Rattle.model.specs.Encoding.{cells_of, room_by}
+use Rattle.model.proofs.Decodes.{server_read, block_read}
+use Rattle.model.proofs.Shapes.{Shape}
+use Rattle.model.proofs.Slots.{stored_seen, stored_shape}
+use Rattle.model.proofs.Views.{stored_in}
+use Rattle.room.proofs.Bridge.{room, says, shape, plainly, seen_alike, by_effect}
 use Rattle.step_laws.proofs.Slots.{after_at}
 
 -- the rule says the same at each slot that the view concerns
@@ -38,8 +37,8 @@ one_rule σ (AtSlot p s k) f plainly t e = ap (λ (u : ℕ). f (σ u)) (eqb-true
 one_rule σ (AtServer p) f plainly t e = plainly (σ 0) ∙ sym (plainly (σ t))
 one_rule σ (AtDrive d on) f plainly t e = absurd (true≢false (sym e))
 
--- a slot of the cells of a room that fits
-cells_seen : (r : Room) (i : RoomIn r) (t : ℕ) → t < r.sizes.slots → Alike (config_of r.sizes) (seen_at r t) (seen r.sizes (cells_of r) t)
+-- a slot of a room, and that of its cells
+cells_seen : (r : Room) (i : Shape r) (t : ℕ) → t < r.sizes.slots → Alike (config_of r.sizes) (seen_at r t) (seen r.sizes (cells_of r) t)
 cells_seen r i t h p l = record { own = sym (server_read r i t p h l); disk = λ d k. sym (block_read r i t d p h k l) }
 
 module _ (r : List ℕ) (st : Step) (i : in_range r ≡ true) (b : places_fit (sizes_of r) st ≡ true) (c : command_fits (limits_of r) st ≡ true) where
@@ -57,14 +56,7 @@ module _ (r : List ℕ) (st : Step) (i : in_range r ≡ true) (b : places_fit (s
   same t x e k = sym (one_rule σ (view_of st) rule (plainly r st i b c) t k) ∙ e
 
   room_seen : (t : ℕ) → t < z.slots → Alike (config_of z) (σ t) (seen_at (room r st) t)
-  unfolding room_by
-  room_seen t h p l =
-      let there = table_at z.slots (λ s. shelf_of z (seen z r s)) no_shelf t h in
-      let like = seen_alike z (σ t) p l in
-      record {
-        own = sym (ap (λ x. (seen_on x p).own) there ∙ like.own);
-        disk = λ d k. sym (ap (λ x. (seen_on x p).disk d) there ∙ like.disk d k);
-      }
+  room_seen t h p l = let like = seen_alike z r t h p l in record { own = sym like.own; disk = λ d k. sym (like.disk d k) }
 
   pub slot_tie
       : (t : ℕ) → t < z.slots → Alike (config_of z) (after_at z (off_of r) t (σ t) st) (seen z (left_by (settled z r) r (effect_of z r st)) t)
@@ -74,10 +66,10 @@ module _ (r : List ℕ) (st : Step) (i : in_range r ≡ true) (b : places_fit (s
       (λ n e. by_test (concerns t st) (λ k. rw (k, same t (Err n) e k) (alike_same (config_of z) (σ t))) (λ k. rw k (alike_same (config_of z) (σ t))))
       (λ v x e.
       let u = stored_in (room r st) (view_of st) v in
-      let made = stored_seen (room r st) (fits r st i b c) (view_of st) v x (in_view z st b) (subst (Plain (view_of st)) e (plainly r st i b c (σ (view_slot (view_of st))))) t h in
+      let made = stored_seen (room r st) (shape r st i b c) (view_of st) v x (in_view z st b) (subst (Plain (view_of st)) e (plainly r st i b c (σ (view_slot (view_of st))))) t h in
       alike_then
       (by_test (concerns t st)
       (λ k. rw (k, same t (Ok (v, x)) e k) (after_alike (room_seen t h) st (Ok (v, x))))
       (λ k. rw k (room_seen t h)))
       (subst (λ (τ : Slot). Alike (config_of z) τ (seen z (cells_of u) t)) made
-      (cells_seen u (stored_held (room r st) (fits r st i b c) (view_of st) v (in_view z st b) (record_in r st i b c v x e)) t h)))
+      (cells_seen u (stored_shape (room r st) (shape r st i b c) (view_of st) v (in_view z st b)) t h)))

@@ -5,7 +5,7 @@ use Rattle.state.specs.declared.Sizes.{Sizes}
 use Rattle.state.specs.declared.Step.{Step}
 use Rattle.synod.specs.Slot.{Slot, config_of}
 use Rattle.synod.proofs.Machine.{ruled, after}
-use Rattle.value.specs.Concerns.{concerns}
+use Rattle.model.specs.Concerns.{concerns}
 
 -- what the step makes of slot t
 unfoldable pub after_at : Sizes → ℕ → ℕ → Slot → Step → Slot
