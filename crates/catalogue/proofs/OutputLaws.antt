@@ -18,7 +18,7 @@ use Rattle.state.specs.Server.{output_of}
 use Rattle.layout.specs.Cells.{server_of}
 use Rattle.range.specs.declared.Masks.{Masks}
 use Rattle.range.specs.Range.{masks_of, value_fits, server_fits}
-use Rattle.range.proofs.Laws.{InRange}
+use Rattle.range.proofs.Laws.{Ranged}
 use Rattle.range.proofs.RecordLaws.{server_says}
 use Rattle.catalogue.specs.Fold.{pieces}
 use Rattle.catalogue.specs.Outputs.{output_at, leading, outputs_of}
@@ -147,10 +147,10 @@ output_of_lem limits true v e = e
 output_of_lem limits false v e = refl
 
 server_output : (limits : List ℕ) (k : Masks) (v : Server) → server_fits (value_fits limits) k v ≡ true → value_fits limits (output_of v) ≡ true
-server_output limits k v e = output_of_lem limits (eqb v.phase 3) v.agreed (server_says limits k v e).agreed
+server_output limits k v e = output_of_lem limits (eqb v.phase 3) v.agreed (server_says (value_fits limits) k v e).agreed
 
 -- a room in range has no outputs but commands
-module _ (limits : List ℕ) (z : Sizes) (cells : List ℕ) (range : InRange limits z cells) (p : ℕ) (h : p < z.servers) where
+module _ (limits : List ℕ) (z : Sizes) (cells : List ℕ) (range : Ranged limits z cells) (p : ℕ) (h : p < z.servers) where
   pub output_fits : (s : ℕ) → s < z.slots → value_fits limits (output_at z cells p s) ≡ true
   unfolding output_at
   output_fits s l = server_output limits (masks_of z) (server_of z cells s p) (range.servers s p l h)

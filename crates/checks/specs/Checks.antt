@@ -1,5 +1,5 @@
 -- A call as its checks, in their order: the first that fails decides, and brings its refusal.
-use Rattle.std.specs.Prelude.{Bool, cond, Result, Ok, Err}
+use Rattle.std.specs.Prelude.{Bool, true, false, cond, Result, Ok, Err}
 use Rattle.checks.specs.declared.Refusal.{Refusal}
 
 -- A condition that must hold, with the refusal where it does not; a choice between two ways; what the call gives at the end.
@@ -32,3 +32,8 @@ mapped f (Err refusal) = Err refusal
 abbrev pub left_by : {A B : Type 0} → (A → B) → B → Result A Refusal → B
 left_by makes old (Ok a) = makes a
 left_by makes old (Err refusal) = old
+
+-- whether the call is accepted
+abbrev pub accepted : {A : Type 0} → Result A Refusal → Bool
+accepted (Ok a) = true
+accepted (Err refusal) = false

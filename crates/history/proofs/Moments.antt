@@ -21,7 +21,6 @@ use Rattle.synod.proofs.Alike.{Alike, alike_then, ruled_alike, after_alike}
 use Rattle.synod.proofs.Invariant.{Invariant}
 use Rattle.synod.proofs.Kept.{kept}
 use Rattle.synod.proofs.Places.{in_view}
-use Rattle.layout.specs.Places.{Fit}
 use Rattle.layout.specs.Cells.{limits_of, off_of, sizes_of}
 use Rattle.room.specs.declared.effect.Effect.{Effect}
 use Rattle.room.specs.Judge.{seen, effect_of, judged, answer_of}
@@ -54,9 +53,6 @@ pub record Next (limits : List ℕ) (z : Sizes) (old : List ℕ) (now : Moment l
   pub moves : (t : ℕ) → t < z.slots → Moves (now.ghosts t) (now.slots t) (move t) (out t) (moment.ghosts t) (moment.slots t)
   pub within : (t : ℕ) → WhenChooses (move t) (λ p. p < z.servers)
 
-fits_of : (z : Sizes) → Fit z → Fits (config_of z)
-fits_of z f = record { servers = f.servers; drives = f.drives }
-
 -- at a slot where nothing shows
 resting : (t : ℕ) (g : Ghost) (σ : Slot) (st : Step) (a : Answered) → move_of t st a ≡ Rests → MovesBy t g σ st a g σ
 resting t g σ st a e = rw e (rests g σ)
@@ -75,52 +71,54 @@ module _ (limits : List ℕ) (z : Sizes) (cells : List ℕ) (now : Moment limits
   abbrev pub After : Event → List ℕ → Type 0
   After e = Next limits z cells now (λ t. move_in t e) (λ t. output_by t e)
 
-  fit : Fit z
-  fit = now.whole.range.row.fit
+  fits : Fits (config_of z)
+  fits = record { servers = now.whole.range.row.fit.servers; drives = now.whole.range.row.fit.drives }
 
-  after_alike_at
-      : (st : Step) → places_fit z st ≡ true → (t : ℕ) → t < z.slots
-      → Alike (config_of z) (after_at z (off_of cells) t (σ t) st) (after_at z (off_of cells) t (seen z cells t) st)
-  unfolding after_at
-  after_alike_at st h t l =
-      let like = now.alike t l in
-      by_test (concerns t st)
-      (λ e.
-      rw e
-      (subst
-      (λ (x : Ruling). Alike (config_of z) (after (σ t) st (ruled (config_of z) (off_of cells) (σ t) st)) (after (seen z cells t) st x))
-      (ruled_alike z (off_of cells) like st h)
-      (after_alike like st (ruled (config_of z) (off_of cells) (σ t) st))))
-      (λ e. rw e like)
+  -- what a judgement leads to, where its effect is stored by the sizes y
+  abbrev StoredBy : Sizes → Step → Result Effect Refusal → Type 0
+  StoredBy y st e = AfterStep st (mapped answer_of e) (left_by (settled y cells) cells e)
+
+  -- the room stores it by its own sizes
+  abbrev Leads : Step → Result Effect Refusal → Type 0
+  Leads = StoredBy (sizes_of cells)
+
+  abbrev answer_at : Step → Answered
+  answer_at st = mapped answer_of (effect_of z cells st)
 
   abbrev ghost_after : Step → ℕ → Ghost
   ghost_after st t =
       cond (concerns t st) (noted (g t) (σ t) st (ruled (config_of z) (off_of cells) (σ t) st)) (g t)
 
-  Holds-after
-      : (st : Step) → places_fit z st ≡ true → (t : ℕ) → t < z.slots
-      → Invariant (config_of z) (ghost_after st t) (after_at z (off_of cells) t (σ t) st)
-  unfolding after_at
-  Holds-after st h t l =
-      by_test (concerns t st)
-      (λ e. rw e (kept z (fits_of z fit) (off_of cells) (now.holds t l) st h))
-      (λ e. rw e (now.holds t l))
+  -- the slot after an accepted step: as it is seen in the cells, explained by its past, and what its machine did
+  record SlotAfter (t : ℕ) (st : Step) (h : Ghost) (τ there : Slot) : Type 0 where
+    alike : Alike (config_of z) τ there
+    holds : Invariant (config_of z) h τ
+    moves : MovesBy t (g t) (σ t) st (answer_at st) h τ
 
-  moves_after
+  slot_after
       : (st : Step) → places_fit z st ≡ true → (t : ℕ) → t < z.slots
-      → MovesBy t (g t) (σ t) st (mapped answer_of (effect_of z cells st)) (ghost_after st t) (after_at z (off_of cells) t (σ t) st)
+      → SlotAfter t st (ghost_after st t) (after_at z (off_of cells) t (σ t) st) (after_at z (off_of cells) t (seen z cells t) st)
   unfolding after_at
-  moves_after st h t l =
+  slot_after st h t l =
+      let like = now.alike t l in
+      let same = ruled_alike z (off_of cells) like st h in
+      let x = ruled (config_of z) (off_of cells) (σ t) st in
       by_test (concerns t st)
       (λ e.
-      let same =
-      answer_tie z cells st t e ∙ sym (ap answer_by (ruled_alike z (off_of cells) (now.alike t l) st h)) in
-      rw (e, same) (concerned z (fits_of z fit) (off_of cells) (g t) (σ t) (now.holds t l) st h t e))
-      (λ e. rw e (resting t (g t) (σ t) st (mapped answer_of (effect_of z cells st)) (unconcerned t st (mapped answer_of (effect_of z cells st)) e)))
+      rw e
+      (record {
+        alike = subst (λ (y : Ruling). Alike (config_of z) (after (σ t) st x) (after (seen z cells t) st y)) same (after_alike like st x);
+        holds = kept z fits (off_of cells) (now.holds t l) st h;
+        moves =
+            subst (λ (a : Answered). MovesBy t (g t) (σ t) st a (noted (g t) (σ t) st x) (after (σ t) st x))
+            (ap answer_by same ∙ sym (answer_tie z cells st t e))
+            (concerned z fits (off_of cells) (g t) (σ t) (now.holds t l) st h t e);
+      }))
+      (λ e. rw e (record { alike = like; holds = now.holds t l; moves = resting t (g t) (σ t) st (answer_at st) (unconcerned t st (answer_at st) e) }))
 
   effect_next
       : (st : Step) → places_fit z st ≡ true → command_fits limits st ≡ true
-      → AfterStep st (mapped answer_of (effect_of z cells st)) (left_by (settled z cells) cells (effect_of z cells st))
+      → StoredBy z st (effect_of z cells st)
   effect_next st h k =
       record {
         moment =
@@ -130,13 +128,11 @@ module _ (limits : List ℕ) (z : Sizes) (cells : List ℕ) (now : Moment limits
               whole = effect_kept limits z cells now.whole st h k;
               alike =
                   λ t l.
-                  alike_then (after_alike_at st h t l) (whole_tie limits z cells now.whole st h k t l);
-              holds = Holds-after st h;
+                  alike_then (slot_after st h t l).alike (whole_tie limits z cells now.whole st h k t l);
+              holds = λ t l. (slot_after st h t l).holds;
             };
-        moves = moves_after st h;
-        within =
-            λ t.
-            chooses_map (move_of t st (mapped answer_of (effect_of z cells st))) _ _ (λ p c. c.within z (in_view z st h)) (chooser t st (mapped answer_of (effect_of z cells st)));
+        moves = λ t l. (slot_after st h t l).moves;
+        within = λ t. chooses_map (move_of t st (answer_at st)) _ _ (λ p c. c.within z (in_view z st h)) (chooser t st (answer_at st));
       }
 
   refused_next : (st : Step) (n : Refusal) → AfterStep st (Err n) cells
@@ -147,48 +143,33 @@ module _ (limits : List ℕ) (z : Sizes) (cells : List ℕ) (now : Moment limits
         within = λ t. rw (refused_rests t st n) tt;
       }
 
-  -- what a judgement leads to
-  abbrev Leads : Step → Result Effect Refusal → Type 0
-  Leads st e = AfterStep st (mapped answer_of e) (left_by (settled z cells) cells e)
-
-  leads_refused : (st : Step) (n : Refusal) → Leads st (Err n)
-  leads_refused st n = refused_next st n
-
   leads_effect
       : (st : Step) → places_fit (sizes_of cells) st ≡ true → command_fits (limits_of cells) st ≡ true
       → Leads st (effect_of (sizes_of cells) cells st)
   leads_effect st b c =
       let same = now.whole.sizes in
-      subst (λ (y : Sizes). Leads st (effect_of y cells st)) (sym same)
+      subst (λ (y : Sizes). StoredBy y st (effect_of y cells st)) (sym same)
       (effect_next st (ap (λ (y : Sizes). places_fit y st) (sym same) ∙ b)
       (ap (λ (l : List ℕ). command_fits l st) (sym now.whole.table) ∙ c))
 
   leads_judged : (st : Step) → Leads st (judged cells st)
   leads_judged st =
       by_checks cells st (Leads st)
-      (λ a. leads_refused st _)
-      (λ a b. leads_refused st _)
-      (λ a b c. leads_refused st _)
+      (λ a. refused_next st _)
+      (λ a b. refused_next st _)
+      (λ a b c. refused_next st _)
       (λ a b c. leads_effect st b c)
 
   -- a Put that is judged leads where the Offer does
   leads_put : (p s v : ℕ) → Leads (Offer p s v) (put_judged cells p s v)
   leads_put p s v =
       let st = Offer p s v in
-      by_put cells p s v (Leads st) (λ n h. leads_refused st n) (λ a b c d. unfold places_fit command_fits in leads_effect st b c)
-
-  -- the effect is stored by the room's own sizes
-  stored
-      : (st : Step) (e : Result Effect Refusal) → Leads st e
-      → AfterStep st (mapped answer_of e) (left_by (settled (sizes_of cells) cells) cells e)
-  stored st e l =
-      subst (λ (y : Sizes). AfterStep st (mapped answer_of e) (left_by (settled y cells) cells e))
-      (sym now.whole.sizes) l
+      by_put cells p s v (Leads st) (λ n h. refused_next st n) (λ a b c d. unfold places_fit command_fits in leads_effect st b c)
 
   -- a call leads from a moment to the next
   pub next : (c : Call) → After (event_of cells c) (called cells c)
   unfolding answered stepped put_answered put_cells output_by
-  next (Steps st) = stored st (judged cells st) (leads_judged st)
+  next (Steps st) = leads_judged st
   next (Asks p) =
       record { moment = now; moves = λ t l. rests (g t) (σ t); within = λ t. tt }
-  next (Puts p s v) = stored (Offer p s v) (put_judged cells p s v) (leads_put p s v)
+  next (Puts p s v) = leads_put p s v

@@ -48,11 +48,11 @@ module _ (z : Sizes) (limits : List ℕ) (eight : length limits ≡ cabinets) wh
       ∙ get_or-append-add limits zeros (i - base) 0
       ∙ zeros_at (room_length z - base) (i - base)
 
-  opened_server : (at : ℕ) → base ≤ at → server_in (opened_cells z limits) at ≡ failed
+  pub opened_server : (at : ℕ) → base ≤ at → server_in (opened_cells z limits) at ≡ failed
   opened_server at h =
       server_read (opened_cells z limits) at failed (λ i l. opened_from (at + i) (omega arith) ∙ sym (zeros_at server_length i))
 
-  opened_block : (at : ℕ) → base ≤ at → block_in (opened_cells z limits) at ≡ blank
+  pub opened_block : (at : ℕ) → base ≤ at → block_in (opened_cells z limits) at ≡ blank
   opened_block at h =
       Block-read (opened_cells z limits) at blank (λ i l. opened_from (at + i) (omega arith) ∙ sym (zeros_at block_length i))
 

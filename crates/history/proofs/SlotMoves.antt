@@ -31,43 +31,30 @@ pub record Moves (g : Ghost) (σ : Slot) (m : Move) (out : ℕ) (h : Ghost) (τ 
   pub agrees : WhenChooses m (λ p. (out ≡ first_command h.commits) × (out ≡ 0 → ⊥))
   pub shows : WhenChooses m (λ p. outputs τ p ≡ out)
 
-pub rests : (g : Ghost) (σ : Slot) → Moves g σ Rests 0 g σ
-rests g σ =
+-- a move without a commit: it chooses nothing and shows no output
+pub unchosen
+    : (g h : Ghost) (σ τ : Slot) (m : Move) → ((A : ℕ → Type 0) → WhenChooses m A) → Makes m (machine_of g σ) (machine_of h τ)
+    → h.commits ≡ g.commits → h.offered ≡ given m g.offered → Moves g σ m 0 h τ
+unchosen g h σ τ m none makes same hears =
     record {
-      makes = refl;
-      first = sym (or_zero (first_command g.commits));
-      hears = refl;
-      early = tt;
-      agrees = tt;
-      shows = tt;
+      makes = makes;
+      first = ap first_command same ∙ sym (or_zero (first_command g.commits));
+      hears = hears;
+      early = none _;
+      agrees = none _;
+      shows = none _;
     }
 
-same_machine
-    : (g : Ghost) (σ τ : Slot) → ((q : ℕ) → outputs τ q ≡ outputs σ q) → ((q : ℕ) → offers τ q ≡ offers σ q)
-    → machine_of g τ ≡ machine_of g σ
-same_machine g σ τ outs offs =
-    λ i. record { offers = λ q. offs q i; outputs = λ q. outs q i; given = g.offered; chosen = first_command g.commits }
+pub rests : (g : Ghost) (σ : Slot) → Moves g σ Rests 0 g σ
+rests g σ = unchosen g g σ σ Rests (λ A. tt) refl refl refl
 
 -- nothing shows
 quietly
     : (g h : Ghost) (σ τ : Slot) → h.offered ≡ g.offered → h.commits ≡ g.commits
     → ((q : ℕ) → outputs τ q ≡ outputs σ q) → ((q : ℕ) → offers τ q ≡ offers σ q) → Moves g σ Rests 0 h τ
 quietly g h σ τ a b outs offs =
-    record {
-      makes =
-          λ i.
-          record {
-            offers = λ q. offs q i;
-            outputs = λ q. outs q i;
-            given = a i;
-            chosen = first_command (b i);
-          };
-      first = ap first_command b ∙ sym (or_zero (first_command g.commits));
-      hears = a;
-      early = tt;
-      agrees = tt;
-      shows = tt;
-    }
+    unchosen g h σ τ Rests (λ A. tt)
+    (λ i. record { offers = λ q. offs q i; outputs = λ q. outs q i; given = a i; chosen = first_command (b i) }) b a
 
 -- a commit is a Choose: the server had no output, and the command is the one chosen before or a member of given
 commits

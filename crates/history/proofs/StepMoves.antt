@@ -22,8 +22,8 @@ use Rattle.synod.proofs.Outputs.{outputs, offers, told, outputs_at, outputs_afte
 use Rattle.model.specs.Concerns.{concerns_at, concerns}
 use Rattle.room.proofs.Answering.{answer_by}
 use Rattle.history.specs.Run.{Move, Offers, Chooses, Fails, Rests, committed, move_at, move_of, output_in}
-use Rattle.history.proofs.Firsts.{or_zero, first_command}
-use Rattle.history.proofs.SlotMoves.{Moves, rests, listens}
+use Rattle.history.proofs.Firsts.{first_command}
+use Rattle.history.proofs.SlotMoves.{Moves, unchosen, rests, listens}
 
 -- the move and the output of a step in slot t with an answer
 abbrev pub MovesBy : ℕ → Ghost → Slot → Step → Answered → Ghost → Slot → Type 0
@@ -69,41 +69,29 @@ module _ (c : Config) (off : ℕ) (g : Ghost) (σ : Slot) where
       → Moves g σ (Offers p v) 0 (noted g σ (Offer p s v) (ruled c off σ (Offer p s v))) (after σ (Offer p s v) (ruled c off σ (Offer p s v)))
   unfolding rule_of offer_rule noted heard outputs_after told offers_after
   offered p s v =
+      unchosen g _ σ _ (Offers p v) (λ A. tt)
+      (λ i.
       record {
-        makes =
-            λ i.
-            record {
-              offers = λ q. offers_told c off σ q (Offer p s v) i;
-              outputs = λ q. outputs_told c off σ q (Offer p s v) i;
-              given = v ∷ g.offered;
-              chosen = first_command g.commits;
-            };
-        first = sym (or_zero (first_command g.commits));
-        hears = refl;
-        early = tt;
-        agrees = tt;
-        shows = tt;
-      }
+        offers = λ q. offers_told c off σ q (Offer p s v) i;
+        outputs = λ q. outputs_told c off σ q (Offer p s v) i;
+        given = v ∷ g.offered;
+        chosen = first_command g.commits;
+      })
+      refl refl
 
   failed
       : (p : ℕ) → Moves g σ (Fails p) 0 (noted g σ (Fail p) (ruled c off σ (Fail p))) (after σ (Fail p) (ruled c off σ (Fail p)))
   unfolding rule_of noted heard outputs_after offers_after
   failed p =
+      unchosen g _ σ _ (Fails p) (λ A. tt)
+      (λ i.
       record {
-        makes =
-            λ i.
-            record {
-              offers = λ q. offers_told c off σ q (Fail p) i;
-              outputs = λ q. outputs_told c off σ q (Fail p) i;
-              given = g.offered;
-              chosen = first_command g.commits;
-            };
-        first = sym (or_zero (first_command g.commits));
-        hears = refl;
-        early = tt;
-        agrees = tt;
-        shows = tt;
-      }
+        offers = λ q. offers_told c off σ q (Fail p) i;
+        outputs = λ q. outputs_told c off σ q (Fail p) i;
+        given = g.offered;
+        chosen = first_command g.commits;
+      })
+      refl refl
 
 module _ (z : Sizes) (fits : Fits (config_of z)) (off : ℕ) (g : Ghost) (σ : Slot) (inv : Invariant (config_of z) g σ) where
   listener

@@ -1,5 +1,5 @@
 -- What a run is made of (SPEC, "The one-value machine"): calls on a room, each with its answer.
-use Rattle.std.specs.Prelude.{ℕ, List, [], ◌∷◌, Result}
+use Rattle.std.specs.Prelude.{ℕ, List, [], ◌∷◌, Option, Some, None, Result}
 use Rattle.checks.specs.declared.Refusal.{Refusal}
 use Rattle.state.specs.declared.Step.{Step}
 use Rattle.state.specs.declared.Step.TheVariants.{Offer}
@@ -32,12 +32,11 @@ called cells (Steps st) = stepped cells st
 called cells (Asks p) = cells
 called cells (Puts p s v) = put_cells cells p s v
 
--- What an event counts as in all that is told of a run, where f tells it of a step and its answer: a Put counts as an
--- Offer, an Ask as nothing.
-abbrev pub as_step : {A : Type 0} → (Step → Answered → A) → A → Event → A
-as_step f none (Took st a) = f st a
-as_step f none (Asked p a) = none
-as_step f none (Put p s v a) = f (Offer p s v) a
+-- What an event counts as in all that is told of a run: a step with its answer. A Put counts as an Offer, an Ask as nothing.
+abbrev pub told : Event → Option (Step × Answered)
+told (Took st a) = Some (st, a)
+told (Asked p a) = None
+told (Put p s v a) = Some (Offer p s v, a)
 
 -- a run of steps alone
 unfoldable pub all_steps : List Step → List Call

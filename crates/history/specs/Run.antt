@@ -1,14 +1,16 @@
 -- A run is its history: the list of calls with their answers (SPEC, "The one-value machine"). What is told of a run is
 -- read off this list, never off the cells; what it says of outputs is compared with them at the end.
-use Rattle.std.specs.Prelude.{ℕ, Bool, not, cond, ◌≡◌, eqb}
+use Rattle.std.specs.Prelude.{ℕ, Bool, ◌≡◌, ◌==◌, if◌then◌else◌}
+use Rattle.std.specs.Option.{option_map_or}
 use mathlib.Core.List.{List, [], ◌∷◌, Memᴰ}
+use Rattle.checks.specs.Checks.{accepted}
 use Rattle.state.specs.declared.Sizes.{Sizes}
 use Rattle.state.specs.declared.Step.{Step}
 use Rattle.state.specs.Answers.{Answered, code_of, number_of}
 use Rattle.state.specs.Server.{output_of}
 use Rattle.state.specs.View.{Deed, Brings, Stores, Alone, View, AtSlot, AtServer, AtDrive, view_of}
 use Rattle.layout.specs.Cells.{server_of}
-use Rattle.history.specs.Calls.{Call, Event, event_of, called, as_step}
+use Rattle.history.specs.Calls.{Call, Event, event_of, called, told}
 
 -- the cells after a list of calls
 unfoldable pub ran : List ℕ → List Call → List ℕ
@@ -25,12 +27,9 @@ unfoldable pub Always : (List ℕ → Type 0) → List ℕ → List Call → Typ
 Always P cells [] = P cells
 Always P cells (c ∷ cs) = P cells × Always P (called cells c) cs
 
--- the words of an answer
-abbrev pub accepted : Answered → Bool
-accepted a = not (eqb (code_of a) 4)
-
+-- the answer has the word committed
 abbrev pub committed : Answered → Bool
-committed a = eqb (code_of a) 3
+committed a = code_of a == 3
 
 -- the move of a slot's machine
 pub data Move : Type 0 where
@@ -42,13 +41,13 @@ pub data Move : Type 0 where
 -- The move that a step with this answer makes. A Choose is read off the answer, not off the kind: a Finish that
 -- commits and a Read that learns are answered so, and nothing else.
 abbrev pub deed_move : ℕ → Deed → Answered → Move
-deed_move p (Brings c) a = cond (accepted a) (Offers p c) Rests
-deed_move p (Stores d) a = cond (committed a) (Chooses p) Rests
-deed_move p Alone a = cond (committed a) (Chooses p) Rests
+deed_move p (Brings c) a = if accepted a then Offers p c else Rests
+deed_move p (Stores d) a = if committed a then Chooses p else Rests
+deed_move p Alone a = if committed a then Chooses p else Rests
 
 abbrev pub move_at : ℕ → View → Answered → Move
-move_at t (AtSlot p s k) a = cond (eqb s t) (deed_move p k a) Rests
-move_at t (AtServer p) a = cond (accepted a) (Fails p) Rests
+move_at t (AtSlot p s k) a = if s == t then deed_move p k a else Rests
+move_at t (AtServer p) a = if accepted a then Fails p else Rests
 move_at t (AtDrive d on) a = Rests
 
 unfoldable pub move_of : ℕ → Step → Answered → Move
@@ -56,7 +55,7 @@ move_of t st a = move_at t (view_of st) a
 
 -- the move of an event
 abbrev pub move_in : ℕ → Event → Move
-move_in t e = as_step (move_of t) Rests e
+move_in t e = option_map_or (λ x. move_of t x.0 x.1) (told e) Rests
 
 -- the command with which an answer committed, by the move; 0 where it did not
 abbrev pub output_in : Move → Answered → ℕ
@@ -66,11 +65,11 @@ output_in (Fails p) a = 0
 output_in Rests a = 0
 
 unfoldable pub output_by : ℕ → Event → ℕ
-output_by t e = as_step (λ st a. output_in (move_of t st a) a) 0 e
+output_by t e = option_map_or (λ x. output_in (move_of t x.0 x.1) x.1) (told e) 0
 
 -- the first that is not 0
 abbrev pub or_else : ℕ → ℕ → ℕ
-or_else a b = cond (eqb a 0) b a
+or_else a b = if a == 0 then b else a
 
 -- the command of the first committed answer in the slot; 0 where there is none
 unfoldable pub first_output : ℕ → List Event → ℕ

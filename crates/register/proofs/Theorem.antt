@@ -10,8 +10,6 @@ use Rattle.command.specs.Command.{cabinets, limits_fit}
 use Rattle.checks.specs.Refusals.{refusal_in}
 use Rattle.std.specs.Prelude.{Ok}
 use Rattle.state.specs.declared.Sizes.{Sizes}
-use Rattle.synod.proofs.Machine.{blank_slot}
-use Rattle.synod.proofs.Past.{no_ghost}
 use Rattle.layout.specs.Places.{Fit}
 use Rattle.layout.proofs.PlaceLaws.{fit_of}
 use Rattle.room.specs.Open.{opening, opened, opened_cells}
@@ -20,7 +18,7 @@ use Rattle.history.specs.Calls.{Call}
 use Rattle.history.specs.Run.{history, first_output}
 use Rattle.history.proofs.Always.{always_map}
 use Rattle.history.proofs.Opened.{opens}
-use Rattle.history.proofs.Runs.{Shown, told}
+use Rattle.history.proofs.Runs.{Shown, tells}
 use Rattle.catalogue.specs.Fold.{folded, start}
 use Rattle.catalogue.specs.Outputs.{output_at, leading, outputs_of}
 use Rattle.catalogue.specs.Call.{entries_of, counted}
@@ -70,13 +68,13 @@ from_opened z limits fit eight hoards calls =
     let cells = opened_cells z limits in
     let now = opens z limits fit eight hoards in
     let first : ℕ → ℕ = λ t. first_output t (history cells calls) in
-    let run = told limits z first cells now calls (λ t h. refl) in
+    let run = tells limits z first cells now calls (λ t h. refl) in
     record {
       machines = run.follows;
       catalogues = always_map (Shown z first) (AllShow z (leading first 0 z.slots)) (shows z first) cells calls run.shown;
       outputs = run.outputs;
-      agreed = run.commits;
-      offered = run.early;
+      agreed = run.agreed;
+      offered = run.offered;
     }
 
 -- DEMAND 3

@@ -1,12 +1,13 @@
 -- What an example says: a run in a room just opened, its answers, and what demand 3 makes of them.
-use Rattle.std.specs.Prelude.{ℕ, ◌<◌, cond, List, [], ◌∷◌, ◌≡◌, eqb, get_or, take, replicate, Ok}
+use Rattle.std.specs.Prelude.{ℕ, ◌<◌, List, [], ◌∷◌, ◌≡◌, ◌==◌, if◌then◌else◌, get_or, take, replicate, Ok}
+use Rattle.std.specs.Option.{option_map_or}
 use Rattle.state.specs.declared.Sizes.{Sizes}
 use Rattle.state.specs.Answers.{code_of, number_of}
 use Rattle.catalogue.specs.Call.{catalogue_of, catalogue_cells}
 use Rattle.catalogue.specs.Fold.{pieces, folded, start}
 use Rattle.catalogue.specs.Listing.{counts}
 use Rattle.starred.specs.Runs.{new_room}
-use Rattle.history.specs.Calls.{Call, Steps, Asks, Puts, Event, Took, Asked, Put, as_step}
+use Rattle.history.specs.Calls.{Call, Steps, Asks, Puts, Event, Took, Asked, Put, told}
 use Rattle.history.specs.Run.{ran, history}
 use Rattle.register.specs.OneHistory.{commands_of, OneHistory}
 
@@ -45,7 +46,7 @@ last_room e = ran (new_room e.sizes e.limits) (calls_of e.run)
 unfoldable pub said : ℕ → List Event → List ℕ
 said word [] = []
 said word (e ∷ h) =
-    as_step (λ st a. cond (eqb (code_of a) word) (number_of a ∷ said word h) (said word h)) (said word h) e
+    option_map_or (λ x. if code_of x.1 == word then number_of x.1 ∷ said word h else said word h) (told e) (said word h)
 
 -- the words chosen and committed
 abbrev pub chosen_code : ℕ
