@@ -14,3 +14,5 @@ pub mod Stores
 -- a step on a room, slot by slot; what it keeps in range
 pub mod RulesKeep
 pub mod Slots
+-- what the next step says, by the rule of its kind
+pub mod NextLaws

@@ -8,8 +8,7 @@ ghost use Rattle.model.specs.Promise.{RoomWhereInRange, RowAgain, RowShaped, Cel
 #[tactic(auto, using(crate::proofs::Ranged::room_where_in_range))]
 pub fn room_where_in_range()
     ensures { RoomWhereInRange }
-{
-}
+{}
 
 /// The cells of the room that a row is read as are the row again, for every row that is as long as its sizes say, in range or
 /// not; and that room has the shape of one.
@@ -17,8 +16,7 @@ pub fn room_where_in_range()
 pub fn row_again()
     ensures cells { RowAgain }
     ensures shape { RowShaped }
-{
-}
+{}
 
 /// The cells of what has the shape of a room are a row, and the room is read from them again, in range or not; where it is in
 /// range, it is the room that they are.
@@ -27,5 +25,4 @@ pub fn room_again()
     ensures row { CellsRow }
     ensures room { RoomAgain }
     ensures in_range { RoomInCells }
-{
-}
+{}

@@ -26,10 +26,9 @@ use Rattle.range.specs.Range.{masks_of, in_range}
 use Rattle.range.proofs.RecordLaws.{ServerIn}
 use Rattle.range.proofs.Laws.{range_says}
 use Rattle.model.specs.Room.{Room, seen_at}
-use Rattle.model.specs.Next.{makes, acts, next}
 use Rattle.model.specs.Encoding.{cells_of, room_by, room_of, next_on, answers, leaves}
 use Rattle.model.proofs.Encodes.{cells_again}
-use Rattle.model.proofs.Ranged.{ranged}
+use Rattle.model.proofs.NextLaws.{told, next_ruled, row_refused, row_next}
 use Rattle.model.proofs.Rows.{row_shape}
 use Rattle.model.proofs.RulesKeep.{Keeps}
 use Rattle.model.proofs.Shapes.{Shape, RoomIn}
@@ -47,40 +46,6 @@ use Rattle.room.proofs.Effects.{written_put, failure_put}
 pub seen_alike
     : (z : Sizes) (cells : List ℕ) (s : ℕ) → s < z.slots → Alike (config_of z) (seen_at (room_by z cells) s) (seen z cells s)
 seen_alike z cells s h p l = record { own = own_read z cells s p h l; disk = λ d k. disk_read z cells s d p h k l }
-
--- a rule's refusal, or the room that it makes
-abbrev pub told : Room → (Server → Room) → Ruling → Result (Room × Answer) Refusal
-told r f x = mapped (λ y. (f y.0, y.1)) x
-
-made : (r : Room) (f : Server → Room) (c : Rule) → outcome (makes f c) ≡ told r f (outcome c)
-unfolding must
-made r f (Must true n c) = made r f c
-made r f (Must false n c) = refl
-made r f (Either true x y) = made r f x
-made r f (Either false x y) = made r f y
-made r f (Gives x) = refl
-
-by_rule
-    : (r : Room) (st : Step)
-    → outcome (makes (stored_in r (view_of st)) (rule_of (config_of r.sizes) r.off (seen_at r (view_slot (view_of st))) st))
-    ≡ told r (stored_in r (view_of st)) (ruled (config_of r.sizes) r.off (seen_at r (view_slot (view_of st))) st)
-by_rule r st = made r (stored_in r (view_of st)) (rule_of (config_of r.sizes) r.off (seen_at r (view_slot (view_of st))) st)
-
--- the step's own part is its rule
-pub acts_ruled
-    : (r : Room) (st : Step)
-    → outcome (acts r st) ≡ told r (stored_in r (view_of st)) (ruled (config_of r.sizes) r.off (seen_at r (view_slot (view_of st))) st)
-unfolding acts rule_of
-acts_ruled r (Offer p s c) = by_rule r (Offer p s c)
-acts_ruled r (Recall p s d) = by_rule r (Recall p s d)
-acts_ruled r (Rejoin p s b) = by_rule r (Rejoin p s b)
-acts_ruled r (Bid p s b) = by_rule r (Bid p s b)
-acts_ruled r (Write p s d) = by_rule r (Write p s d)
-acts_ruled r (Read p s d q) = by_rule r (Read p s d q)
-acts_ruled r (Finish p s) = by_rule r (Finish p s)
-acts_ruled r (Fail p) = refl
-acts_ruled r (DriveOff d) = refl
-acts_ruled r (DriveOn d) = refl
 
 -- the slot that a view names is in the room
 view_slot_in : (z : Sizes) → Fit z → (w : View) → InView z w → view_slot w < z.slots
@@ -109,32 +74,27 @@ module _ (cells : List ℕ) (st : Step) where
   says = ruled (config_of z) (off_of cells) (seen z cells here) st
 
   three : in_range cells ≡ false → outcome (next_on cells st) ≡ Err OutOfRange
-  unfolding next_on next must
-  three a = simp (ranged cells, a)
+  three a = row_refused cells st a
 
   four : in_range cells ≡ true → places_fit z st ≡ false → outcome (next_on cells st) ≡ Err BeyondRoom
-  unfolding next_on next must room_by
-  four a b = simp (ranged cells, a, b)
+  unfolding must room_by
+  four a b = row_next cells st a ∙ next_ruled room st ∙ simp b
 
   five : in_range cells ≡ true → places_fit z st ≡ true → command_fits (limits_of cells) st ≡ false → outcome (next_on cells st) ≡ Err NoCommand
-  unfolding next_on next must room_by
-  five a b c = simp (ranged cells, a, b, c)
+  unfolding must room_by
+  five a b c = row_next cells st a ∙ next_ruled room st ∙ simp (b, c)
 
   module _ (a : in_range cells ≡ true) (b : places_fit z st ≡ true) (c : command_fits (limits_of cells) st ≡ true) where
     pub row : Row z cells
     row = (range_says cells a).row
-
-    goes : outcome (next_on cells st) ≡ outcome (acts room st)
-    unfolding next_on next must room_by
-    goes = simp (ranged cells, a, b, c)
 
     -- the rule says the same of the room
     pub same_ruling : ruled (config_of z) (off_of cells) (seen_at room here) st ≡ says
     same_ruling = ruled_alike z (off_of cells) (seen_alike z cells here (view_slot_in z row.fit (view_of st) (in_view z st b))) st b
 
     acted : outcome (next_on cells st) ≡ told room (stored_in room (view_of st)) says
-    unfolding room_by
-    acted = goes ∙ acts_ruled room st ∙ ap (told room (stored_in room (view_of st))) same_ruling
+    unfolding must room_by
+    acted = row_next cells st a ∙ next_ruled room st ∙ simp (b, c) (ap (told room (stored_in room (view_of st))) same_ruling)
 
     pub shape : Shape room
     shape = row_shape z cells row

@@ -1,0 +1,80 @@
+-- The next step of a room in terms of the rule of the step's kind: the checks of the step's numbers, and then that rule, whose record
+-- is stored as the step's view says.
+use Prim.Native.Nat.{ℕ}
+use mathlib.Core.Path.{◌≡◌, refl, ◌∙◌, ap}
+use mathlib.Core.Bool.{true, false}
+use mathlib.Core.List.{List}
+use Rattle.std.specs.Prelude.{Result, Ok, Err}
+use Rattle.checks.specs.declared.Refusal.{Refusal}
+use Rattle.checks.specs.declared.Refusal.TheVariants.{OutOfRange, BeyondRoom, NoCommand}
+use Rattle.checks.specs.Checks.{Must, Either, Gives, must, mapped, outcome}
+use Rattle.state.specs.declared.Answer.{Answer}
+use Rattle.state.specs.declared.Server.{Server}
+use Rattle.state.specs.declared.Step.{Step}
+use Rattle.state.specs.declared.Step.TheVariants.{Offer, Recall, Rejoin, Bid, Write, Read, Finish, Fail, DriveOff, DriveOn}
+use Rattle.state.specs.View.{view_of, view_slot}
+use Rattle.synod.specs.Arguments.{places_fit, command_fits}
+use Rattle.synod.specs.Rules.{Rule, Ruling, rule_of}
+use Rattle.synod.specs.Slot.{config_of}
+use Rattle.synod.proofs.Machine.{ruled}
+use Rattle.range.specs.Range.{in_range}
+use Rattle.model.specs.Room.{Room, seen_at}
+use Rattle.model.specs.Next.{makes, acts, next}
+use Rattle.model.specs.Encoding.{room_of, next_on}
+use Rattle.model.proofs.Ranged.{ranged}
+use Rattle.model.proofs.Views.{stored_in}
+
+-- a rule's refusal, or the room that it makes
+abbrev pub told : Room → (Server → Room) → Ruling → Result (Room × Answer) Refusal
+told r f x = mapped (λ y. (f y.0, y.1)) x
+
+made : (r : Room) (f : Server → Room) (c : Rule) → outcome (makes f c) ≡ told r f (outcome c)
+unfolding must
+made r f (Must true n c) = made r f c
+made r f (Must false n c) = refl
+made r f (Either true x y) = made r f x
+made r f (Either false x y) = made r f y
+made r f (Gives x) = refl
+
+by_rule
+    : (r : Room) (st : Step)
+    → outcome (makes (stored_in r (view_of st)) (rule_of (config_of r.sizes) r.off (seen_at r (view_slot (view_of st))) st))
+    ≡ told r (stored_in r (view_of st)) (ruled (config_of r.sizes) r.off (seen_at r (view_slot (view_of st))) st)
+by_rule r st = made r (stored_in r (view_of st)) (rule_of (config_of r.sizes) r.off (seen_at r (view_slot (view_of st))) st)
+
+-- the step's own part is its rule
+pub acts_ruled
+    : (r : Room) (st : Step)
+    → outcome (acts r st) ≡ told r (stored_in r (view_of st)) (ruled (config_of r.sizes) r.off (seen_at r (view_slot (view_of st))) st)
+unfolding acts rule_of
+acts_ruled r (Offer p s c) = by_rule r (Offer p s c)
+acts_ruled r (Recall p s d) = by_rule r (Recall p s d)
+acts_ruled r (Rejoin p s b) = by_rule r (Rejoin p s b)
+acts_ruled r (Bid p s b) = by_rule r (Bid p s b)
+acts_ruled r (Write p s d) = by_rule r (Write p s d)
+acts_ruled r (Read p s d q) = by_rule r (Read p s d q)
+acts_ruled r (Finish p s) = by_rule r (Finish p s)
+acts_ruled r (Fail p) = refl
+acts_ruled r (DriveOff d) = refl
+acts_ruled r (DriveOn d) = refl
+
+-- the checks of its numbers, and then its rule
+pub next_ruled
+    : (r : Room) (st : Step)
+    → outcome (next r st)
+    ≡ must (places_fit r.sizes st) BeyondRoom
+    (must (command_fits r.limits st) NoCommand
+    (told r (stored_in r (view_of st)) (ruled (config_of r.sizes) r.off (seen_at r (view_slot (view_of st))) st)))
+unfolding next
+next_ruled r st =
+    ap (λ (x : Result (Room × Answer) Refusal). must (places_fit r.sizes st) BeyondRoom (must (command_fits r.limits st) NoCommand x)) (acts_ruled r st)
+
+-- a step on a row: a row that is not in range is refused, and one that is goes on as its room
+module _ (cells : List ℕ) (st : Step) where
+  pub row_refused : in_range cells ≡ false → outcome (next_on cells st) ≡ Err OutOfRange
+  unfolding next_on must
+  row_refused a = simp (ranged cells, a)
+
+  pub row_next : in_range cells ≡ true → outcome (next_on cells st) ≡ outcome (next (room_of cells) st)
+  unfolding next_on must
+  row_next a = simp (ranged cells, a)
