@@ -2,7 +2,7 @@
 -- gives the lowest number that applies and leaves every cell.
 use Prim.Native.Nat.{ℕ, ◌≤◌, ◌<◌}
 use mathlib.Core.Path.{◌≡◌, refl, ◌∙◌, sym, ap, subst}
-use mathlib.Core.Bool.{true}
+use mathlib.Core.Bool.{true, true≢false}
 use mathlib.Core.List.{List, [], ◌∷◌, Memᴰ}
 use native.Mathlib.Omega.{arith}
 use lib.ListN.{length, get_or}
@@ -11,7 +11,8 @@ use borrow.Author.Tests.{eqb-true, eqb-false, ltb-true, ltb-false}
 use Rattle.lemmas.proofs.Tests.{by_test}
 use Rattle.std.specs.Prelude.{Result, Ok, Err}
 use Rattle.checks.specs.declared.Refusal.{Refusal}
-use Rattle.checks.specs.Refusals.{Possible, refusal_number, refusal_in, refusals_of, numbers_of, rises, lowest}
+use Rattle.checks.specs.Checks.{accepted}
+use Rattle.checks.specs.Refusals.{Possible, refusal_in, refusals_of, numbers_of, rises, lowest}
 use Rattle.checks.proofs.LowestLaws.{first_applies, least_applies, left_as_it_was}
 use Rattle.state.specs.declared.Sizes.{Sizes}
 use Rattle.layout.specs.Cells.{sizes_of}
@@ -54,10 +55,10 @@ module _ (room : List ℕ) (server : ℕ) (out : List ℕ) where
     pub at_most_taken : n ≤ k
     pub cells : catalogue_cells room server out ≡ (entries_of (sizes_of room) room server).cells
 
-  -- the answer, by cases: no refusal has the number 0
+  -- what the counts of an accepted call are
   abbrev Says : Result Counts Refusal → Type 0
   Says (Ok c) = Accepted c.taken c.skipped
-  Says (Err n) = 1 ≤ refusal_number n
+  Says (Err n) = Unit {0}
 
   is_accepted
       : length out ≡ pieces → in_range room ≡ true → server < (sizes_of room).servers → Says (catalogue_of room server out)
@@ -84,32 +85,31 @@ module _ (room : List ℕ) (server : ℕ) (out : List ℕ) where
       (λ i.
       by_test (ltb server (sizes_of room).servers)
       (λ h. is_accepted l i (ltb-true server (sizes_of room).servers h))
-      (λ h. subst Says (no_server room server out l i (ltb-false server (sizes_of room).servers h)).0 (omega arith)))
-      (λ i. subst Says (out_of_range room server out l i).0 (omega arith)))
-      (λ e. subst Says (wrong_length room server out (eqb-false (length out) pieces e)).0 (omega arith))
+      (λ h. subst Says (no_server room server out l i (ltb-false server (sizes_of room).servers h)).0 tt))
+      (λ i. subst Says (out_of_range room server out l i).0 tt))
+      (λ e. subst Says (wrong_length room server out (eqb-false (length out) pieces e)).0 tt)
 
-  is_counted : (l : Result Counts Refusal) → Says l → refusal_in l ≡ 0 → l ≡ Ok (counts (taken_of l) (skipped_of l))
-  is_counted (Ok c) s e = refl
-  is_counted (Err n) s e = absurd (omega arith)
+  is_counted : (l : Result Counts Refusal) → accepted l ≡ true → l ≡ Ok (counts (taken_of l) (skipped_of l))
+  is_counted (Ok c) e = refl
+  is_counted (Err n) e = absurd (true≢false (sym e))
 
-  -- so 0 says that the call is accepted
   pub accepted_is
-      : refusal_in (catalogue_of room server out) ≡ 0
+      : accepted (catalogue_of room server out) ≡ true
       → catalogue_of room server out ≡ Ok (counts (taken_of (catalogue_of room server out)) (skipped_of (catalogue_of room server out)))
-  accepted_is = is_counted (catalogue_of room server out) says
+  accepted_is = is_counted (catalogue_of room server out)
 
   pub accepted_says
-      : refusal_in (catalogue_of room server out) ≡ 0
+      : accepted (catalogue_of room server out) ≡ true
       → Accepted (taken_of (catalogue_of room server out)) (skipped_of (catalogue_of room server out))
   accepted_says e = subst Says (accepted_is e) says
 
   -- an accepted catalogue leaves as many cells as there are pieces
-  pub catalogue_length : refusal_in (catalogue_of room server out) ≡ 0 → length (catalogue_cells room server out) ≡ pieces
+  pub catalogue_length : accepted (catalogue_of room server out) ≡ true → length (catalogue_cells room server out) ≡ pieces
   catalogue_length e = ap length (accepted_says e).cells ∙ entries_length (sizes_of room) room server
 
   -- and none is above struck
   pub catalogue_bounded
-      : refusal_in (catalogue_of room server out) ≡ 0 → (i : ℕ) → get_or (catalogue_cells room server out) i 0 ≤ struck
+      : accepted (catalogue_of room server out) ≡ true → (i : ℕ) → get_or (catalogue_cells room server out) i 0 ≤ struck
   catalogue_bounded e i =
       subst (λ (cells : List ℕ). get_or cells i 0 ≤ struck) (sym (accepted_says e).cells) (entries_bounded (sizes_of room) room server i)
 

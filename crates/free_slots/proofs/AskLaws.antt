@@ -2,7 +2,7 @@
 -- is; and of the refusals that apply it gives the lowest.
 use Prim.Native.Nat.{ℕ, zero, suc, ◌+◌, ◌<◌, ◌≤◌}
 use mathlib.Core.Path.{◌≡◌, refl, sym, ap, subst}
-use mathlib.Core.Bool.{Bool, true, false, cond}
+use mathlib.Core.Bool.{Bool, true, false, true≢false, cond}
 use mathlib.Core.List.{List, [], ◌∷◌, Memᴰ}
 use native.Mathlib.Omega.{arith}
 use native.Mathlib.Decide.{dec_lt}
@@ -13,7 +13,7 @@ use Rattle.std.specs.Prelude.{Option, None, Some, Result, Ok, Err}
 use Rattle.std.specs.Option.{MatchOption}
 use Rattle.checks.specs.declared.Refusal.{Refusal}
 use Rattle.checks.specs.declared.Refusal.TheVariants.{OutOfRange, BeyondRoom, NoSlotFree}
-use Rattle.checks.specs.Checks.{must}
+use Rattle.checks.specs.Checks.{must, accepted}
 use Rattle.checks.specs.Refusals.{Possible, refusal_number, refusal_in, refusals_of, numbers_of, rises, lowest}
 use Rattle.checks.proofs.LowestLaws.{first_applies, least_applies}
 use Rattle.layout.specs.Cells.{sizes_of}
@@ -109,10 +109,10 @@ module _ (cells : List ℕ) (p : ℕ) where
   unfolding asked ask_checks must
   asked_slot a b c = simp (a, b, c)
 
-  -- the answer, by cases: no refusal has the number 0
+  -- the answer, by cases
   abbrev Says : Result ℕ Refusal → Type 0
   Says (Ok s) = Names cells p s
-  Says (Err n) = (1 ≤ refusal_number n) × (refusal_number n ≡ 17 → NoneFree cells p)
+  Says (Err n) = refusal_number n ≡ 17 → NoneFree cells p
 
   says_17 : (sizes_of cells).slots ≤ lowest_free (sizes_of cells) cells p → NoneFree cells p
   says_17 h t l = is_first.lower t (omega arith) (omega arith)
@@ -135,20 +135,20 @@ module _ (cells : List ℕ) (p : ℕ) where
         free = is_first.here (omega arith);
         lower = λ t h. is_first.lower t (omega arith) h;
       }))
-      (λ c. subst Says (sym (asked_17 a b c)) (omega arith, λ e. says_17 (ltb-false s (sizes_of cells).slots c))))
-      (λ b. subst Says (sym (asked_4 a b)) (omega arith, λ e. absurd (omega arith))))
-      (λ a. subst Says (sym (asked_3 a)) (omega arith, λ e. absurd (omega arith)))
+      (λ c. subst Says (sym (asked_17 a b c)) (λ e. says_17 (ltb-false s (sizes_of cells).slots c))))
+      (λ b. subst Says (sym (asked_4 a b)) (λ e. absurd (omega arith))))
+      (λ a. subst Says (sym (asked_3 a)) (λ e. absurd (omega arith)))
 
-  named : (a : Result ℕ Refusal) → Says a → refusal_in a ≡ 0 → Names cells p (slot_named a)
+  named : (a : Result ℕ Refusal) → Says a → accepted a ≡ true → Names cells p (slot_named a)
   named (Ok s) i e = i
-  named (Err n) i e = absurd (omega (arith, i.0))
+  named (Err n) i e = absurd (true≢false (sym e))
 
   stopped : (a : Result ℕ Refusal) → Says a → refusal_in a ≡ 17 → NoneFree cells p
   stopped (Ok s) i e = absurd (omega arith)
-  stopped (Err n) i e = i.1 e
+  stopped (Err n) i e = i e
 
   -- the slot that is named is free, and no lower one is
-  pub ask_names : refusal_in (asked cells p) ≡ 0 → Names cells p (slot_named (asked cells p))
+  pub ask_names : accepted (asked cells p) ≡ true → Names cells p (slot_named (asked cells p))
   ask_names = named (asked cells p) says
 
   -- 17 exactly where none is free

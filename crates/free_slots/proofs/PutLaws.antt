@@ -2,7 +2,7 @@
 -- the slot that an Ask of the same room named is done with any command.
 use Prim.Native.Nat.{ℕ, ◌≤◌}
 use mathlib.Core.Path.{◌≡◌, refl, ◌∙◌, sym, ap, subst}
-use mathlib.Core.Bool.{true, false}
+use mathlib.Core.Bool.{true, false, true≢false}
 use mathlib.Core.List.{List, [], ◌∷◌, Memᴰ}
 use mathlib.Core.Logic.{inl, inr}
 use native.Mathlib.Omega.{arith}
@@ -12,7 +12,7 @@ use Rattle.lemmas.proofs.Tests.{by_test, and_intro, and_left, and_right}
 use Rattle.std.specs.Prelude.{Result, Ok, Err}
 use Rattle.checks.specs.declared.Refusal.{Refusal}
 use Rattle.checks.specs.declared.Refusal.TheVariants.{OutOfRange, BeyondRoom, NoCommand, SlotNotFree}
-use Rattle.checks.specs.Checks.{must, mapped, left_by}
+use Rattle.checks.specs.Checks.{must, mapped, left_by, accepted}
 use Rattle.checks.specs.Refusals.{Possible, refusal_number, refusal_in, refusals_of, numbers_of, rises, lowest}
 use Rattle.checks.proofs.CheckLaws.{must_cases}
 use Rattle.checks.proofs.LowestLaws.{first_applies, least_applies}
@@ -127,14 +127,14 @@ module _ (r : List ℕ) (p s v : ℕ) where
       (λ a b c d k. absurd (k (ap refusal_in offer_done)))
 
   -- where a Put is not refused, it is judged as the Offer, and so does what that does
-  judged_alike : refusal_in (put_answered r p s v) ≡ 0 → put_judged r p s v ≡ judged r (Offer p s v)
+  judged_alike : accepted (put_answered r p s v) ≡ true → put_judged r p s v ≡ judged r (Offer p s v)
   unfolding put_answered places_fit command_fits
   judged_alike =
-      by_put (λ e. refusal_in (mapped answer_of e) ≡ 0 → e ≡ judged r (Offer p s v))
-      (λ n h k. absurd (omega arith))
+      by_put (λ e. accepted (mapped answer_of e) ≡ true → e ≡ judged r (Offer p s v))
+      (λ n h k. absurd (true≢false (sym k)))
       (λ a b c d k. sym (passed r (Offer p s v) a b c))
 
-  pub put_as_offer : refusal_in (put_answered r p s v) ≡ 0 → AsOffer r p s v
+  pub put_as_offer : accepted (put_answered r p s v) ≡ true → AsOffer r p s v
   unfolding put_answered put_cells answered stepped
   put_as_offer e =
       let same = judged_alike e in
@@ -158,5 +158,5 @@ module _ (r : List ℕ) (p s v : ℕ) where
 
 -- where Ask names a slot, a Put of the same server there, on the same room, is done if it is a command and 5 if not
 pub put_after_ask
-    : (r : List ℕ) (p v : ℕ) → refusal_in (asked r p) ≡ 0 → OnlyCommand r p (slot_named (asked r p)) v
+    : (r : List ℕ) (p v : ℕ) → accepted (asked r p) ≡ true → OnlyCommand r p (slot_named (asked r p)) v
 put_after_ask r p v e = named r p (slot_named (asked r p)) v (ask_names r p e)

@@ -1,14 +1,14 @@
 -- Laws of the next step: what it gives is accepted; its refusals in the order of their numbers.
 use Prim.Native.Nat.{ℕ, ◌≤◌}
-use mathlib.Core.Bool.{true, false, not}
+use mathlib.Core.Bool.{true, false, not, true≢false}
 use mathlib.Core.List.{List, [], ◌∷◌, Memᴰ}
 use mathlib.Core.Path.{◌≡◌, refl, ◌∙◌, sym, ap, subst}
 use native.Mathlib.Omega.{arith}
 use lib.Dec.{eqb}
-use borrow.Author.Tests.{eqb-true, not-true}
+use borrow.Author.Tests.{not-true}
 use Rattle.lemmas.proofs.Tests.{by_test, and_right}
 use Rattle.std.specs.Prelude.{Option, Some, None, Ok, option_map, option_and_then}
-use Rattle.checks.specs.Checks.{must}
+use Rattle.checks.specs.Checks.{must, accepted}
 use Rattle.checks.specs.Refusals.{Possible, refusal_in, refusals_of, numbers_of, rises, lowest}
 use Rattle.checks.proofs.LowestLaws.{first_applies, least_applies}
 use Rattle.state.specs.declared.Step.{Step}
@@ -50,7 +50,7 @@ module _ (cells : List ℕ) (p s : ℕ) where
   next_least = least_applies (next_checks cells p s) refl
 
   -- without a refusal the answer is the step or none
-  when_accepted : refusal_in (next_answered cells p s) ≡ 0 → next_answered cells p s ≡ Ok (next_of cells p s)
+  when_accepted : accepted (next_answered cells p s) ≡ true → next_answered cells p s ≡ Ok (next_of cells p s)
   unfolding next_answered next_checks must
   when_accepted =
       by_test (in_range cells)
@@ -59,28 +59,28 @@ module _ (cells : List ℕ) (p s : ℕ) where
       (λ b.
       by_test (majority (sizes_of cells).drives (is_on (off_of cells)))
       (λ c. rw (a, b, c) (λ e. refl))
-      (λ c. rw (a, b, c) (λ e. absurd (omega arith))))
-      (λ b. rw (a, b) (λ e. absurd (omega arith))))
-      (λ a. rw a (λ e. absurd (omega arith)))
+      (λ c. rw (a, b, c) (λ e. absurd (true≢false (sym e)))))
+      (λ b. rw (a, b) (λ e. absurd (true≢false (sym e)))))
+      (λ a. rw a (λ e. absurd (true≢false (sym e))))
 
   next_of_is : (x : Option Step) → next_answered cells p s ≡ Ok x → next_of cells p s ≡ x
   next_of_is x e =
-      let same : Ok (next_of cells p s) ≡ Ok x = sym (when_accepted (ap refusal_in e)) ∙ e in
+      let same : Ok (next_of cells p s) ≡ Ok x = sym (when_accepted (ap accepted e)) ∙ e in
       cc
 
   -- a wish that is given
   record Wished (o : Option Step) (st : Step) : Type 0 where
     wish : o ≡ Some st
-    accepted : refusal_in (answered cells st) ≡ 0
+    fits : accepted (answered cells st) ≡ true
 
   wish_given : (o : Option Step) (st : Step) → option_and_then (if_accepted cells) o ≡ Some st → Wished o st
   wish_given None st e = no_step st e
   wish_given (Some y) st e =
-      by_test (eqb (refusal_in (answered cells y)) 0)
+      by_test (accepted (answered cells y))
       (λ t.
       let same : Some y ≡ Some st = sym (simp t) ∙ e in
       let is : y ≡ st = cc in
-      record { wish = same; accepted = subst (λ x. refusal_in (answered cells x) ≡ 0) is (eqb-true (refusal_in (answered cells y)) 0 t) })
+      record { wish = same; fits = subst (λ x. accepted (answered cells x) ≡ true) is t })
       (λ t. no_step st (sym (simp t) ∙ e))
 
   abbrev own : Server
@@ -127,7 +127,7 @@ pub next_given : (cells : List ℕ) (p s : ℕ) → Given cells p s
 unfolding next_of
 next_given cells p s =
     record {
-      accepted = λ st e. (given cells p s st e).accepted;
+      step_accepted = λ st e. (given cells p s st e).fits;
       least =
           λ q t b e.
           ballot_answered (sizes_of cells).servers p _ b

@@ -2,7 +2,7 @@
 -- least own ballot, in phase 3 there is none, and which drives are used.
 use Rattle.std.specs.Prelude.{ℕ, ◌<◌, ◌≡◌, true, false, List, Some, None, Ok}
 use mathlib.Core.List.{Memᴰ}
-use Rattle.checks.specs.Refusals.{refusal_in}
+use Rattle.checks.specs.Checks.{accepted}
 use Rattle.ballot.specs.Least.{LeastOwn}
 use Rattle.quorum.specs.Sets.{majority}
 use Rattle.state.specs.declared.Step.{Step}
@@ -14,12 +14,12 @@ use Rattle.progress.specs.Used.{on_below, is_used, used_drives}
 use Rattle.progress.specs.Next.{next_answered}
 
 pub record Given (cells : List ℕ) (p s : ℕ) : Type 0 where
-  pub accepted : (st : Step) → next_answered cells p s ≡ Ok (Some st) → refusal_in (answered cells st) ≡ 0
+  pub step_accepted : (st : Step) → next_answered cells p s ≡ Ok (Some st) → accepted (answered cells st) ≡ true
   pub least
       : (q t b : ℕ) → next_answered cells p s ≡ Ok (Some (Rejoin q t b))
       → LeastOwn (sizes_of cells).servers p (server_of (sizes_of cells) cells s p).top b
   pub phase_3
-      : (server_of (sizes_of cells) cells s p).phase ≡ 3 → refusal_in (next_answered cells p s) ≡ 0
+      : (server_of (sizes_of cells) cells s p).phase ≡ 3 → accepted (next_answered cells p s) ≡ true
       → next_answered cells p s ≡ Ok None
 
 -- the shortest run of on drives, by rising number, that is a majority

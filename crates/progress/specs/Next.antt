@@ -1,12 +1,11 @@
 -- The next step of server p in slot s (SPEC, "The next step"): the first of the steps that are left for it in its phase, or
 -- the one after them. What is marked already is not left.
-use Rattle.std.specs.Prelude.{ℕ, Bool, not, cond, List, [], ◌∷◌, map, eqb, filter, flat_map, Option, Some, None, option_map, option_and_then, Result}
+use Rattle.std.specs.Prelude.{ℕ, Bool, not, cond, List, [], ◌∷◌, map, eqb, filter, flat_map, Option, Some, None, option_map, option_and_then, Result, if◌then◌else◌}
 use Rattle.std.specs.List.{range_with_len}
 use Rattle.std.specs.Option.{option_or}
 use Rattle.checks.specs.declared.Refusal.{Refusal}
 use Rattle.checks.specs.declared.Refusal.TheVariants.{OutOfRange, BeyondRoom, OnDrivesTooFew}
-use Rattle.checks.specs.Checks.{Checked, Must, Gives, outcome}
-use Rattle.checks.specs.Refusals.{refusal_in}
+use Rattle.checks.specs.Checks.{Checked, Must, Gives, outcome, accepted}
 use Rattle.ballot.specs.Ballot.{next_own}
 use Rattle.quorum.specs.Marks.{stands}
 use Rattle.quorum.specs.Sets.{majority}
@@ -65,7 +64,7 @@ module _ (z : Sizes) (off : ℕ) (v : Server) (p s : ℕ) where
 
 -- the step, where it would be accepted
 abbrev pub if_accepted : List ℕ → Step → Option Step
-if_accepted cells st = cond (eqb (refusal_in (answered cells st)) 0) (Some st) None
+if_accepted cells st = if accepted (answered cells st) then Some st else None
 
 -- the step, or none where there is none or it would be refused
 unfoldable pub next_of : List ℕ → ℕ → ℕ → Option Step

@@ -2,11 +2,12 @@
 -- command brings back what was struck.
 use Prim.Native.Nat.{ℕ, ◌+◌, ◌-◌, ◌≤◌}
 use mathlib.Core.Path.{◌≡◌, ◌∙◌, sym, ap}
+use mathlib.Core.Bool.{true}
 use mathlib.Core.List.{List}
 use native.Mathlib.Omega.{arith}
 use lib.ListN.{get_or, take, drop}
 use lib.Seq.{take-add}
-use Rattle.checks.specs.Refusals.{refusal_in}
+use Rattle.checks.specs.Checks.{accepted}
 use Rattle.state.specs.declared.Sizes.{Sizes}
 use Rattle.room.specs.Open.{opening, opened}
 use Rattle.history.specs.Calls.{Call}
@@ -42,7 +43,7 @@ stays z commands room other a b p q h l out lent exact whole less piece e =
 
 -- from a room just opened, for every list of calls
 pub never_again
-    : (z : Sizes) (limits row : List ℕ) → refusal_in (opening z limits row) ≡ 0 → (calls : List Call)
+    : (z : Sizes) (limits row : List ℕ) → accepted (opening z limits row) ≡ true → (calls : List Call)
     → NeverAgain z (opened z limits row) calls
 never_again z limits row e calls =
     let cells = opened z limits row in

@@ -7,13 +7,13 @@ use mathlib.Core.List.{List}
 use native.Mathlib.Omega.{arith}
 use lib.ListN.{length, take, length-take}
 use Rattle.command.specs.Command.{cabinets, limits_fit}
-use Rattle.checks.specs.Refusals.{refusal_in}
+use Rattle.checks.specs.Checks.{accepted}
 use Rattle.std.specs.Prelude.{Ok}
 use Rattle.state.specs.declared.Sizes.{Sizes}
 use Rattle.layout.specs.Places.{Fit}
 use Rattle.layout.proofs.PlaceLaws.{fit_of}
 use Rattle.room.specs.Open.{opening, opened, opened_cells}
-use Rattle.room.proofs.OpenLaws.{accepted}
+use Rattle.room.proofs.OpenLaws.{open_accepted}
 use Rattle.history.specs.Calls.{Call}
 use Rattle.history.specs.Run.{history, first_output}
 use Rattle.history.proofs.Always.{always_map}
@@ -51,7 +51,7 @@ module _ (z : Sizes) (first : ℕ → ℕ) (room : List ℕ) (s : Shown z first 
         k = k;
         some = let n = ap length prefix ∙ length-take k list in omega arith;
         takes = prefix;
-        accepted = ap refusal_in answer;
+        accepted = ap accepted answer;
         taken = ap taken_of answer;
         skipped = ap skipped_of answer;
         cells =
@@ -79,9 +79,9 @@ from_opened z limits fit eight hoards calls =
 
 -- DEMAND 3
 pub one_history
-    : (z : Sizes) (limits row : List ℕ) → refusal_in (opening z limits row) ≡ 0 → (calls : List Call)
+    : (z : Sizes) (limits row : List ℕ) → accepted (opening z limits row) ≡ true → (calls : List Call)
     → OneHistory z (opened z limits row) calls
 one_history z limits row e calls =
-    let o = accepted z limits row e in
+    let o = open_accepted z limits row e in
     subst (λ (cells : List ℕ). OneHistory z cells calls) (sym o.room)
     (from_opened z limits (fit_of z o.fits) o.eight o.hoards calls)

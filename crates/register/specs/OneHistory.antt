@@ -1,6 +1,6 @@
 -- One history (SPEC, "The one-value machine", "The catalogue"): demand 3 of 01, as one claim about a whole list of calls.
-use Rattle.std.specs.Prelude.{ℕ, ◌<◌, ◌≤◌, List, [], ◌≡◌, length, take}
-use Rattle.checks.specs.Refusals.{refusal_in}
+use Rattle.std.specs.Prelude.{ℕ, ◌<◌, ◌≤◌, true, List, [], ◌≡◌, length, take}
+use Rattle.checks.specs.Checks.{accepted}
 use Rattle.state.specs.declared.Sizes.{Sizes}
 use Rattle.history.specs.Calls.{Call, Event}
 use Rattle.history.specs.Run.{history, Always, first_output, OfferedEarlier, AllCommit, CommitsOutput}
@@ -20,7 +20,7 @@ pub record Shows (z : Sizes) (commands room : List ℕ) (p : ℕ) (out : List �
   pub k : ℕ
   pub some : k ≤ length commands
   pub takes : outputs_of z room p ≡ take k commands
-  pub accepted : refusal_in (catalogue_of room p out) ≡ 0
+  pub accepted : accepted (catalogue_of room p out) ≡ true
   pub taken : taken_of (catalogue_of room p out) ≡ k
   pub skipped : skipped_of (catalogue_of room p out) ≡ (folded start (take k commands)).skipped
   pub cells : catalogue_cells room p out ≡ (folded start (take k commands)).cells

@@ -1,9 +1,10 @@
 -- The packing of a catalogue loses nothing: both counts can be had back from its answer.
 use Prim.Native.Nat.{ℕ, ◌+◌, ◌*◌, ◌/◌, ◌%◌, ◌≤◌}
+use mathlib.Core.Bool.{true}
 use mathlib.Core.List.{List}
 use mathlib.Core.Path.{◌≡◌, subst⁻¹}
 use native.Mathlib.Omega.{arith}
-use Rattle.checks.specs.Refusals.{refusal_in}
+use Rattle.checks.specs.Checks.{accepted}
 use Rattle.range.proofs.Laws.{range_says}
 use Rattle.catalogue.specs.Call.{catalogue_of}
 use Rattle.catalogue.specs.Listing.{taken_of, skipped_of}
@@ -23,7 +24,7 @@ few taken skipped a b = record { word = omega arith; upper = omega arith; lower 
 
 pub counts_back
     : (room : List ℕ) (server : ℕ) (out : List ℕ)
-    → refusal_in (catalogue_of room server out) ≡ 0
+    → accepted (catalogue_of room server out) ≡ true
     → Counts (taken_of (catalogue_of room server out)) (skipped_of (catalogue_of room server out))
     (packed_listing (catalogue_of room server out))
 counts_back room server out e =

@@ -6,7 +6,7 @@ use mathlib.Core.List.{List}
 use lib.ListN.{length, take, replicate, length-replicate}
 use Rattle.std.specs.Prelude.{Ok}
 use Rattle.command.specs.Command.{cabinet_limits}
-use Rattle.checks.specs.Refusals.{refusal_in}
+use Rattle.checks.specs.Checks.{accepted}
 use Rattle.state.specs.declared.Sizes.{Sizes}
 use Rattle.state.specs.declared.Step.{Step}
 use Rattle.layout.specs.Places.{sizes_fit, room_length}
@@ -35,7 +35,7 @@ module _ (z : Sizes) (fits : sizes_fit z ≡ true) (steps : List Step) where
       let row : List ℕ = replicate (room_length z) 0 in
       let o = opens_exact z row fits (length-replicate (room_length z) 0) in
       subst (λ (cells : List ℕ). OneHistory z cells (all_steps steps)) (sym o.leaves)
-      (one_history z cabinet_limits row (ap refusal_in (sym o.answers)) (all_steps steps))
+      (one_history z cabinet_limits row (ap accepted (sym o.answers)) (all_steps steps))
 
   pub one_list
       : (p : ℕ) → p < z.servers

@@ -15,9 +15,10 @@ use Rattle.layout.specs.Cells.{sizes_of}
 use Rattle.layout.proofs.PlaceLaws.{fit_of}
 use Rattle.std.specs.Prelude.{Ok, Err}
 use Rattle.checks.specs.declared.Refusal.{Refusal}
+use Rattle.checks.specs.Checks.{accepted}
 use Rattle.checks.specs.Refusals.{refusal_number, refusal_in}
 use Rattle.room.specs.Open.{opening, opened}
-use Rattle.room.proofs.OpenLaws.{Opens, opens_1, opens_room, accepted}
+use Rattle.room.proofs.OpenLaws.{Opens, opens_1, opens_room, open_accepted}
 use Rattle.transcript.specs.Lines.{line_max, open_line, Prints}
 use Rattle.transcript.specs.declared.Transcript.{Transcript}
 use Rattle.transcript.proofs.LineLaws.{open_max}
@@ -41,7 +42,7 @@ module _ (z : Sizes) (row : List ℕ) where
       (unfold limits_fit in refl)
 
   pub opened_fits : opening z cabinet_limits row ≡ Ok tt → sizes_fit z ≡ true
-  opened_fits e = (accepted z cabinet_limits row (ap refusal_in e)).fits
+  opened_fits e = (open_accepted z cabinet_limits row (ap accepted e)).fits
 
   -- the only refusal is that of the sizes
   refused_is : {n : Refusal} → length row ≡ length_of z → opening z cabinet_limits row ≡ Err n → (sizes_fit z ≡ false) × (1 ≡ refusal_number n)
@@ -63,7 +64,7 @@ module _ (z : Sizes) (row : List ℕ) where
   opened_text {cells} {after} {start} {text} s e same then a =
       let fits = opened_fits e in
       let few = (fit_of z fits).servers in
-      let is : cells ≡ opened_room z = same ∙ (accepted z cabinet_limits row (ap refusal_in e)).room in
+      let is : cells ≡ opened_room z = same ∙ (open_accepted z cabinet_limits row (ap accepted e)).room in
       let whole = record_lines 0 (opened_room z) s ++ server_lines (room_after (opened_room z) s) z.servers in
       let text_is : record_lines 0 cells s ++ server_lines after z.servers ≡ run_text z s =
       ap (λ (r : List ℕ). record_lines 0 cells s ++ server_lines r z.servers) then

@@ -1,7 +1,7 @@
 -- Laws of open: its refusals in their order, the lowest that applies, and the room that it makes.
 use Prim.Native.Nat.{ℕ, suc, ◌+◌, ◌-◌, ◌≤◌}
 use mathlib.Core.Path.{◌≡◌, refl, ◌∙◌, sym, ap}
-use mathlib.Core.Bool.{Bool, true, false, ◌&&◌}
+use mathlib.Core.Bool.{Bool, true, false, true≢false, ◌&&◌}
 use mathlib.Core.List.{List, [], ◌∷◌, ◌++◌, Memᴰ}
 use native.Mathlib.Omega.{arith}
 use lib.ListN.{length, set, drop, replicate, length-replicate}
@@ -13,7 +13,7 @@ use Rattle.std.specs.Prelude.{⊤, Result, Ok, Err}
 use Rattle.command.specs.Command.{cabinets, limits_fit}
 use Rattle.checks.specs.declared.Refusal.{Refusal}
 use Rattle.checks.specs.declared.Refusal.TheVariants.{SizesUnfit, WrongLength, LimitsUnfit}
-use Rattle.checks.specs.Checks.{must, left_by}
+use Rattle.checks.specs.Checks.{must, left_by, accepted}
 use Rattle.checks.specs.Refusals.{Possible, refusal_number, refusal_in, refusals_of, numbers_of, rises, lowest}
 use Rattle.checks.proofs.LowestLaws.{first_applies, least_applies}
 use Rattle.state.specs.declared.Sizes.{Sizes}
@@ -62,8 +62,8 @@ module _ (z : Sizes) (limits cells : List ℕ) where
     pub hoards : limits_fit limits ≡ true
     pub room : opened z limits cells ≡ opened_cells z limits
 
-  pub accepted : refusal_in (opening z limits cells) ≡ 0 → Accepted
-  accepted e =
+  pub open_accepted : accepted (opening z limits cells) ≡ true → Accepted
+  open_accepted e =
       by_test (sizes_fit z)
       (λ a.
       by_test long
@@ -77,12 +77,12 @@ module _ (z : Sizes) (limits cells : List ℕ) where
         hoards = c;
         room = sym (opens_room a b c).leaves;
       })
-      (λ c. absurd (refuses LimitsUnfit (opens_18 a b c).answers (omega arith))))
-      (λ b. absurd (refuses WrongLength (opens_2 a b).answers (omega arith))))
-      (λ a. absurd (refuses SizesUnfit (opens_1 a).answers (omega arith)))
+      (λ c. absurd (refuses LimitsUnfit (opens_18 a b c).answers)))
+      (λ b. absurd (refuses WrongLength (opens_2 a b).answers)))
+      (λ a. absurd (refuses SizesUnfit (opens_1 a).answers))
     where
-      refuses : (n : Refusal) → Err n ≡ opening z limits cells → 1 ≤ refusal_number n → ⊥
-      refuses n k h = let z = ap refusal_in k ∙ e in omega arith
+      refuses : (n : Refusal) → Err n ≡ opening z limits cells → ⊥
+      refuses n k = true≢false (sym (ap accepted k ∙ e))
 
   -- the numbers of the checks, in their order
   pub open_numbers : numbers_of (refusals_of (open_checks z limits cells)) ≡ 1 ∷ 2 ∷ 18 ∷ []

@@ -1,6 +1,7 @@
 -- An example whose values are computed holds: what demand 3 adds to them is read off the theorem.
 use Prim.Native.Nat.{ℕ, zero, suc, ◌<◌}
 use mathlib.Core.Path.{◌≡◌, refl, ◌∙◌, sym, ap, ap₂, subst}
+use mathlib.Core.Bool.{Bool, true}
 use mathlib.Core.List.{List, []}
 use native.Mathlib.Omega.{arith}
 use lib.ListN.{get_or, take, replicate}
@@ -9,7 +10,7 @@ use borrow.Author.Tests.{eqb-true, eqb-false}
 use Rattle.lemmas.proofs.Tests.{by_test}
 use Rattle.std.specs.Prelude.{Result, Ok}
 use Rattle.checks.specs.declared.Refusal.{Refusal}
-use Rattle.checks.specs.Refusals.{refusal_in}
+use Rattle.checks.specs.Checks.{accepted}
 use Rattle.layout.specs.Places.{room_length}
 use Rattle.room.specs.Open.{opening}
 use Rattle.catalogue.specs.Fold.{Entries, folded, start}
@@ -47,7 +48,7 @@ listed e (suc n) a p h =
 
 -- all that is compared of an example with n servers: what the run gives, and what the example tells
 record Values (n : ℕ) : Type 0 where
-  opens : ℕ
+  opens : Bool
   answers : List Event
   chosen : List ℕ
   committed : List ℕ
@@ -57,7 +58,7 @@ record Values (n : ℕ) : Type 0 where
 abbrev values_of : (e : Example) → Values e.sizes.servers
 values_of e =
     record {
-      opens = refusal_in (opening e.sizes e.limits (replicate (room_length e.sizes) 9));
+      opens = accepted (opening e.sizes e.limits (replicate (room_length e.sizes) 9));
       answers = history_of e;
       chosen = said chosen_code e.run;
       committed = said committed_code e.run;
@@ -68,7 +69,7 @@ values_of e =
 abbrev values_told : (e : Example) → Values e.sizes.servers
 values_told e =
     record {
-      opens = 0;
+      opens = true;
       answers = e.run;
       chosen = e.chosen;
       committed = e.committed;
