@@ -3,7 +3,7 @@
 use Prim.Native.Nat.{ℕ, ◌≤◌, ◌<◌}
 use mathlib.Core.Path.{◌≡◌, refl, ◌∙◌, sym, ap, subst}
 use mathlib.Core.Bool.{true, true≢false}
-use mathlib.Core.List.{List, [], ◌∷◌, Memᴰ}
+use mathlib.Core.List.{List, [], ◌∷◌}
 use native.Mathlib.Omega.{arith}
 use lib.ListN.{length, get_or}
 use lib.Dec.{eqb, ltb}
@@ -12,8 +12,9 @@ use Rattle.lemmas.proofs.Tests.{by_test}
 use Rattle.std.specs.Prelude.{Result, Ok, Err}
 use Rattle.checks.specs.declared.Refusal.{Refusal}
 use Rattle.checks.specs.Checks.{accepted}
-use Rattle.checks.specs.Refusals.{Possible, refusal_in, refusals_of, numbers_of, rises, lowest}
-use Rattle.checks.proofs.LowestLaws.{first_applies, least_applies, left_as_it_was}
+use Rattle.checks.specs.Refusals.{numbers_of, rises}
+use Rattle.checks.specs.Lowest.{LowestFirst}
+use Rattle.checks.proofs.LowestLaws.{left_as_it_was, orderly}
 use Rattle.state.specs.declared.Sizes.{Sizes}
 use Rattle.layout.specs.Cells.{sizes_of}
 use Rattle.range.specs.Range.{in_range}
@@ -113,24 +114,9 @@ module _ (room : List ℕ) (server : ℕ) (out : List ℕ) where
   catalogue_bounded e i =
       subst (λ (cells : List ℕ). get_or cells i 0 ≤ struck) (sym (accepted_says e).cells) (entries_bounded (sizes_of room) room server i)
 
-  -- the numbers of the checks, in their order
-  pub catalogue_numbers : numbers_of (refusals_of (catalogue_checks room server out)) ≡ 2 ∷ 3 ∷ 4 ∷ []
-  unfolding catalogue_checks numbers_of
-  catalogue_numbers = refl
-
-  -- the answer carries the lowest refusal that applies
-  pub catalogue_lowest : refusal_in (catalogue_of room server out) ≡ lowest (refusals_of (catalogue_checks room server out))
-  unfolding catalogue_of catalogue_checks
-  catalogue_lowest = first_applies (catalogue_checks room server out)
-
-  -- and no lower one applies
-  pub catalogue_least
-      : (r : Possible) → Memᴰ r (refusals_of (catalogue_checks room server out)) → r.applies ≡ true
-      → refusal_in (catalogue_of room server out) ≤ r.number
-  unfolding catalogue_of catalogue_checks numbers_of rises
-  catalogue_least = least_applies (catalogue_checks room server out) refl
-
-  -- a refusal leaves every cell as it was
-  pub catalogue_leaves : (refusal_in (catalogue_of room server out) ≡ 0 → ⊥) → catalogue_cells room server out ≡ out
-  unfolding catalogue_cells
-  catalogue_leaves h = left_as_it_was _ out (catalogue_of room server out) h
+  -- the lowest refusal that applies is given, and a refusal leaves every cell as it was
+  pub catalogue_lowest_first
+      : LowestFirst (catalogue_checks room server out) (2 ∷ 3 ∷ 4 ∷ []) (catalogue_of room server out) out
+      (catalogue_cells room server out)
+  unfolding catalogue_of catalogue_cells catalogue_checks numbers_of rises
+  catalogue_lowest_first = orderly refl refl refl (left_as_it_was _ out (catalogue_of room server out))

@@ -2,7 +2,7 @@
 -- the lowest.
 use Prim.Native.Nat.{ℕ, ◌<◌, ◌≤◌}
 use mathlib.Core.Path.{◌≡◌, refl, ◌∙◌, sym, ap}
-use mathlib.Core.Bool.{true, false}
+use mathlib.Core.Bool.{true, false, true≢false}
 use mathlib.Core.List.Memᴰ
 use mathlib.Core.List.{List, [], ◌∷◌, Memᴰ}
 use mathlib.Core.Logic.{◌⊎◌, inl, inr}
@@ -12,8 +12,9 @@ use borrow.Author.Tests.{ltb-true}
 use Rattle.lemmas.proofs.Tests.{by_test, and_left, and_right}
 use Rattle.std.specs.Prelude.{Result, Ok, Err}
 use Rattle.checks.specs.declared.Refusal.{Refusal}
-use Rattle.checks.specs.Checks.{Checked, Must, Either, Gives, must, outcome, mapped, left_by}
+use Rattle.checks.specs.Checks.{Checked, Must, Either, Gives, must, outcome, mapped, left_by, accepted}
 use Rattle.checks.specs.Refusals.{Possible, refusal_in, refusals_in, refusals_of, numbers_of, rises, lowest}
+use Rattle.checks.specs.Lowest.{LowestFirst}
 
 -- the ways that are not open refuse nothing
 closed : {A : Type 0} (c : Checked A) (rest : List Possible) → lowest (refusals_in false c rest) ≡ lowest rest
@@ -23,11 +24,11 @@ closed (Either t x y) rest = closed x (refusals_in false y rest) ∙ closed y re
 closed (Gives a) rest = refl
 
 -- every other that applies is above n, and at least the first
-pub record Above (n first m : ℕ) : Type 0 where
-  pub above : n < m
-  pub least : first ≤ m
+record Above (n first m : ℕ) : Type 0 where
+  above : n < m
+  least : first ≤ m
 
-pub lowest_first
+lowest_first
     : (n : ℕ) (rs : List Possible) → rises n (numbers_of rs) ≡ true → (r : Possible) → Memᴰ r rs → r.applies ≡ true
     → Above n (lowest rs) r.number
 unfolding lowest rises numbers_of
@@ -68,18 +69,32 @@ first_in (Gives a) rest h = sym h
 pub first_applies : {A : Type 0} (c : Checked A) → refusal_in (outcome c) ≡ lowest (refusals_of c)
 first_applies c = first_in c [] (unfold lowest in refl)
 
--- and no other that applies is lower, where the numbers rise
-pub least_applies
-    : {A : Type 0} (c : Checked A) → rises 0 (numbers_of (refusals_of c)) ≡ true → (r : Possible) → Memᴰ r (refusals_of c)
-    → r.applies ≡ true → refusal_in (outcome c) ≤ r.number
-least_applies c up r m e = rw (first_applies c) (lowest_first 0 (refusals_of c) up r m e).least
-
 -- an answer told in another way has the same refusal
 pub refusal_mapped : {A B : Type 0} (f : A → B) (x : Result A Refusal) → refusal_in (mapped f x) ≡ refusal_in x
 refusal_mapped f (Ok a) = refl
 refusal_mapped f (Err n) = refl
 
+-- and is accepted where it is
+pub accepted_mapped : {A B : Type 0} (f : A → B) (x : Result A Refusal) → accepted (mapped f x) ≡ accepted x
+accepted_mapped f (Ok a) = refl
+accepted_mapped f (Err n) = refl
+
 -- a refusal leaves what was lent as it was
-pub left_as_it_was : {A B : Type 0} (makes : A → B) (old : B) (x : Result A Refusal) → (refusal_in x ≡ 0 → ⊥) → left_by makes old x ≡ old
-left_as_it_was makes old (Ok a) h = absurd (h refl)
+pub left_as_it_was : {A B : Type 0} (makes : A → B) (old : B) (x : Result A Refusal) → accepted x ≡ false → left_by makes old x ≡ old
+left_as_it_was makes old (Ok a) h = absurd (true≢false h)
 left_as_it_was makes old (Err n) h = refl
+
+-- All of this at once: the numbers are as expected and rise, the answer has the refusal that the checks have, and a refused
+-- call leaves what was lent.
+pub orderly
+    : {A B L : Type 0} {c : Checked A} {expected : List ℕ} {answer : Result B Refusal} {before after : L}
+    → numbers_of (refusals_of c) ≡ expected → rises 0 expected ≡ true → refusal_in answer ≡ refusal_in (outcome c)
+    → (accepted answer ≡ false → after ≡ before) → LowestFirst c expected answer before after
+orderly {c = c} numbers rising same left =
+    let first = same ∙ first_applies c in
+    record {
+      numbers = numbers;
+      first = first;
+      least = λ r m e. rw first (lowest_first 0 (refusals_of c) (ap (rises 0) numbers ∙ rising) r m e).least;
+      leaves = left;
+    }

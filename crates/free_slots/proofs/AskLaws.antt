@@ -3,7 +3,7 @@
 use Prim.Native.Nat.{ℕ, zero, suc, ◌+◌, ◌<◌, ◌≤◌}
 use mathlib.Core.Path.{◌≡◌, refl, sym, ap, subst}
 use mathlib.Core.Bool.{Bool, true, false, true≢false, cond}
-use mathlib.Core.List.{List, [], ◌∷◌, Memᴰ}
+use mathlib.Core.List.{List, [], ◌∷◌}
 use native.Mathlib.Omega.{arith}
 use native.Mathlib.Decide.{dec_lt}
 use lib.Dec.{ltb, eqb}
@@ -14,8 +14,9 @@ use Rattle.std.specs.Option.{MatchOption}
 use Rattle.checks.specs.declared.Refusal.{Refusal}
 use Rattle.checks.specs.declared.Refusal.TheVariants.{OutOfRange, BeyondRoom, NoSlotFree}
 use Rattle.checks.specs.Checks.{must, accepted}
-use Rattle.checks.specs.Refusals.{Possible, refusal_number, refusal_in, refusals_of, numbers_of, rises, lowest}
-use Rattle.checks.proofs.LowestLaws.{first_applies, least_applies}
+use Rattle.checks.specs.Refusals.{refusal_number, refusal_in, numbers_of, rises}
+use Rattle.checks.specs.Lowest.{LowestFirst}
+use Rattle.checks.proofs.LowestLaws.{orderly}
 use Rattle.layout.specs.Cells.{sizes_of}
 use Rattle.range.specs.Range.{in_range}
 use Rattle.free_slots.specs.Ask.{free_at, first_from, lowest_free, ask_checks, asked, slot_named}
@@ -164,18 +165,7 @@ module _ (cells : List ℕ) (p : ℕ) where
       clash (free s) (is_first.here (omega arith)) (none s l))
       (λ c. ap refusal_in (asked_17 a (lt-ltb p (sizes_of cells).servers h) c))
 
-  -- the numbers of the checks, in their order
-  pub ask_numbers : numbers_of (refusals_of (ask_checks cells p)) ≡ 3 ∷ 4 ∷ 17 ∷ []
-  unfolding ask_checks numbers_of
-  ask_numbers = refl
-
-  -- the answer carries the lowest refusal that applies
-  pub ask_lowest : refusal_in (asked cells p) ≡ lowest (refusals_of (ask_checks cells p))
-  unfolding asked ask_checks
-  ask_lowest = first_applies (ask_checks cells p)
-
-  -- and no lower one applies
-  pub ask_least
-      : (r : Possible) → Memᴰ r (refusals_of (ask_checks cells p)) → r.applies ≡ true → refusal_in (asked cells p) ≤ r.number
+  -- the lowest refusal that applies is given; the room is lent to be read alone
+  pub ask_lowest_first : LowestFirst (ask_checks cells p) (3 ∷ 4 ∷ 17 ∷ []) (asked cells p) cells cells
   unfolding asked ask_checks numbers_of rises
-  ask_least = least_applies (ask_checks cells p) refl
+  ask_lowest_first = orderly refl refl refl (λ e. refl)

@@ -3,7 +3,7 @@
 use Prim.Native.Nat.{ℕ, ◌≤◌}
 use mathlib.Core.Path.{◌≡◌, refl, ◌∙◌, sym, ap, subst}
 use mathlib.Core.Bool.{true, false, true≢false}
-use mathlib.Core.List.{List, [], ◌∷◌, Memᴰ}
+use mathlib.Core.List.{List, [], ◌∷◌}
 use mathlib.Core.Logic.{inl, inr}
 use native.Mathlib.Omega.{arith}
 use lib.Dec.{ltb}
@@ -13,9 +13,10 @@ use Rattle.std.specs.Prelude.{Result, Ok, Err}
 use Rattle.checks.specs.declared.Refusal.{Refusal}
 use Rattle.checks.specs.declared.Refusal.TheVariants.{OutOfRange, BeyondRoom, NoCommand, SlotNotFree}
 use Rattle.checks.specs.Checks.{must, mapped, left_by, accepted}
-use Rattle.checks.specs.Refusals.{Possible, refusal_number, refusal_in, refusals_of, numbers_of, rises, lowest}
+use Rattle.checks.specs.Refusals.{refusal_number, refusal_in, numbers_of, rises}
+use Rattle.checks.specs.Lowest.{LowestFirst}
 use Rattle.checks.proofs.CheckLaws.{must_cases}
-use Rattle.checks.proofs.LowestLaws.{first_applies, least_applies}
+use Rattle.checks.proofs.LowestLaws.{refusal_mapped, accepted_mapped, left_as_it_was, orderly}
 use Rattle.command.specs.Command.{is_command}
 use Rattle.state.specs.declared.Answer.TheVariants.{Done}
 use Rattle.state.specs.declared.Answer.{Answer}
@@ -92,39 +93,15 @@ module _ (r : List ℕ) (p s v : ℕ) where
   pub put_placed : (y : Ruling) (own : Server) (a : Answer) → y ≡ ruling (put_rule r p s v) → y ≡ Ok (own, a) → InSlot (sizes_of r) r s p
   put_placed y own a said is = subst Placed (sym said ∙ is) (by_rule Placed (λ n h. tt) (λ a b c d. offer_placed a b))
 
-  -- what an Offer does is answered with done
-  offer_done : mapped answer_of (effect_of (sizes_of r) r (Offer p s v)) ≡ Ok Done
-  unfolding effect_of rule_of offer_rule
-  offer_done = refl
-
-  -- the numbers of the checks, in their order
-  pub put_numbers : numbers_of (refusals_of (put_rule r p s v)) ≡ 3 ∷ 4 ∷ 5 ∷ 16 ∷ []
-  unfolding put_rule offer_rule numbers_of
-  put_numbers = refl
-
-  number_kept : (x : Ruling) → refusal_in (mapped answer_of (mapped (recording s p) x)) ≡ refusal_in x
-  number_kept (Ok x) = refl
-  number_kept (Err n) = refl
-
-  -- the answer carries the lowest refusal that applies
-  pub put_lowest : refusal_in (put_answered r p s v) ≡ lowest (refusals_of (put_rule r p s v))
-  unfolding put_answered put_judged
-  put_lowest = number_kept (ruling (put_rule r p s v)) ∙ first_applies (put_rule r p s v)
-
-  -- and no lower one applies
-  pub put_least
-      : (x : Possible) → Memᴰ x (refusals_of (put_rule r p s v)) → x.applies ≡ true → refusal_in (put_answered r p s v) ≤ x.number
-  unfolding put_answered put_judged put_rule offer_rule numbers_of rises
-  put_least x m e = rw (number_kept (ruling (put_rule r p s v))) (least_applies (put_rule r p s v) refl x m e)
-
-  -- a refusal leaves every cell as it was
-  pub put_leaves : (refusal_in (put_answered r p s v) ≡ 0 → ⊥) → put_cells r p s v ≡ r
-  unfolding put_answered put_cells settled
-  put_leaves =
-      by_put
-      (λ e. (refusal_in (mapped answer_of e) ≡ 0 → ⊥) → left_by (settled (sizes_of r) r) r e ≡ r)
-      (λ n h k. refl)
-      (λ a b c d k. absurd (k (ap refusal_in offer_done)))
+  -- the lowest refusal that applies is given, and a refusal leaves every cell as it was
+  pub put_lowest_first : LowestFirst (put_rule r p s v) (3 ∷ 4 ∷ 5 ∷ 16 ∷ []) (put_answered r p s v) r (put_cells r p s v)
+  unfolding put_answered put_judged put_cells put_rule offer_rule numbers_of rises
+  put_lowest_first =
+      orderly refl refl
+      (refusal_mapped answer_of (put_judged r p s v) ∙ refusal_mapped (recording s p) (ruling (put_rule r p s v)))
+      (λ e.
+      left_as_it_was (settled (sizes_of r) r) r (put_judged r p s v)
+      (sym (accepted_mapped answer_of (put_judged r p s v)) ∙ e))
 
   -- where a Put is not refused, it is judged as the Offer, and so does what that does
   judged_alike : accepted (put_answered r p s v) ≡ true → put_judged r p s v ≡ judged r (Offer p s v)

@@ -1,7 +1,7 @@
 -- Laws of the next step: what it gives is accepted; its refusals in the order of their numbers.
-use Prim.Native.Nat.{ℕ, ◌≤◌}
+use Prim.Native.Nat.{ℕ}
 use mathlib.Core.Bool.{true, false, not, true≢false}
-use mathlib.Core.List.{List, [], ◌∷◌, Memᴰ}
+use mathlib.Core.List.{List, [], ◌∷◌}
 use mathlib.Core.Path.{◌≡◌, refl, ◌∙◌, sym, ap, subst}
 use native.Mathlib.Omega.{arith}
 use lib.Dec.{eqb}
@@ -9,8 +9,9 @@ use borrow.Author.Tests.{not-true}
 use Rattle.lemmas.proofs.Tests.{by_test, and_right}
 use Rattle.std.specs.Prelude.{Option, Some, None, Ok, option_map, option_and_then}
 use Rattle.checks.specs.Checks.{must, accepted}
-use Rattle.checks.specs.Refusals.{Possible, refusal_in, refusals_of, numbers_of, rises, lowest}
-use Rattle.checks.proofs.LowestLaws.{first_applies, least_applies}
+use Rattle.checks.specs.Refusals.{numbers_of, rises}
+use Rattle.checks.specs.Lowest.{LowestFirst}
+use Rattle.checks.proofs.LowestLaws.{orderly}
 use Rattle.state.specs.declared.Step.{Step}
 use Rattle.room.specs.Step.{answered}
 use Rattle.state.specs.declared.Step.TheVariants.{Rejoin, Finish}
@@ -33,21 +34,10 @@ no_step : {X : Type 0} (st : Step) → None ≡ Some st → X
 no_step st e = let z : ◌≡◌ {A = ℕ} 0 1 = cc in absurd (omega arith)
 
 module _ (cells : List ℕ) (p s : ℕ) where
-  pub next_numbers : numbers_of (refusals_of (next_checks cells p s)) ≡ 3 ∷ 4 ∷ 19 ∷ []
-  unfolding next_checks numbers_of
-  next_numbers = refl
-
-  -- the answer carries the lowest refusal that applies
-  pub next_lowest : refusal_in (next_answered cells p s) ≡ lowest (refusals_of (next_checks cells p s))
-  unfolding next_answered next_checks
-  next_lowest = first_applies (next_checks cells p s)
-
-  -- and no lower one applies
-  pub next_least
-      : (r : Possible) → Memᴰ r (refusals_of (next_checks cells p s)) → r.applies ≡ true
-      → refusal_in (next_answered cells p s) ≤ r.number
+  -- the lowest refusal that applies is given; the room is lent to be read alone
+  pub next_lowest_first : LowestFirst (next_checks cells p s) (3 ∷ 4 ∷ 19 ∷ []) (next_answered cells p s) cells cells
   unfolding next_answered next_checks numbers_of rises
-  next_least = least_applies (next_checks cells p s) refl
+  next_lowest_first = orderly refl refl refl (λ e. refl)
 
   -- without a refusal the answer is the step or none
   when_accepted : accepted (next_answered cells p s) ≡ true → next_answered cells p s ≡ Ok (next_of cells p s)

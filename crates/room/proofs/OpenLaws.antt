@@ -2,7 +2,7 @@
 use Prim.Native.Nat.{ℕ, suc, ◌+◌, ◌-◌, ◌≤◌}
 use mathlib.Core.Path.{◌≡◌, refl, ◌∙◌, sym, ap}
 use mathlib.Core.Bool.{Bool, true, false, true≢false, ◌&&◌}
-use mathlib.Core.List.{List, [], ◌∷◌, ◌++◌, Memᴰ}
+use mathlib.Core.List.{List, [], ◌∷◌, ◌++◌}
 use native.Mathlib.Omega.{arith}
 use lib.ListN.{length, set, drop, replicate, length-replicate}
 use lib.Dec.{eqb}
@@ -14,8 +14,9 @@ use Rattle.command.specs.Command.{cabinets, limits_fit}
 use Rattle.checks.specs.declared.Refusal.{Refusal}
 use Rattle.checks.specs.declared.Refusal.TheVariants.{SizesUnfit, WrongLength, LimitsUnfit}
 use Rattle.checks.specs.Checks.{must, left_by, accepted}
-use Rattle.checks.specs.Refusals.{Possible, refusal_number, refusal_in, refusals_of, numbers_of, rises, lowest}
-use Rattle.checks.proofs.LowestLaws.{first_applies, least_applies}
+use Rattle.checks.specs.Refusals.{numbers_of, rises}
+use Rattle.checks.specs.Lowest.{LowestFirst}
+use Rattle.checks.proofs.LowestLaws.{left_as_it_was, orderly}
 use Rattle.state.specs.declared.Sizes.{Sizes}
 use Rattle.layout.specs.Places.{base, sizes_fit, room_length, Fit}
 use Rattle.layout.specs.Cells.{put, limits_at}
@@ -84,31 +85,11 @@ module _ (z : Sizes) (limits cells : List ℕ) where
       refuses : (n : Refusal) → Err n ≡ opening z limits cells → ⊥
       refuses n k = true≢false (sym (ap accepted k ∙ e))
 
-  -- the numbers of the checks, in their order
-  pub open_numbers : numbers_of (refusals_of (open_checks z limits cells)) ≡ 1 ∷ 2 ∷ 18 ∷ []
-  unfolding open_checks numbers_of
-  open_numbers = refl
-
-  -- the answer carries the lowest refusal that applies
-  pub open_lowest : refusal_in (opening z limits cells) ≡ lowest (refusals_of (open_checks z limits cells))
-  unfolding opening open_checks
-  open_lowest = first_applies (open_checks z limits cells)
-
-  -- and no lower one applies
-  pub open_least
-      : (r : Possible) → Memᴰ r (refusals_of (open_checks z limits cells)) → r.applies ≡ true
-      → refusal_in (opening z limits cells) ≤ r.number
-  unfolding opening open_checks numbers_of rises
-  open_least = least_applies (open_checks z limits cells) refl
-
-  left : (o : Result ⊤ Refusal) → (refusal_in o ≡ 0 → ⊥) → left_by (λ _. opened_cells z limits) cells o ≡ cells
-  left (Ok a) h = absurd (h refl)
-  left (Err n) h = refl
-
-  -- a refusal leaves the row as it was
-  pub open_leaves : (refusal_in (opening z limits cells) ≡ 0 → ⊥) → opened z limits cells ≡ cells
-  unfolding opened
-  open_leaves h = left (opening z limits cells) h
+  -- the lowest refusal that applies is given, and a refusal leaves the row as it was
+  pub open_lowest_first
+      : LowestFirst (open_checks z limits cells) (1 ∷ 2 ∷ 18 ∷ []) (opening z limits cells) cells (opened z limits cells)
+  unfolding opening opened open_checks numbers_of rises
+  open_lowest_first = orderly refl refl refl (left_as_it_was (λ _. opened_cells z limits) cells (opening z limits cells))
 
 -- the sizes stored in a row of zeros, and then the limits
 head_set

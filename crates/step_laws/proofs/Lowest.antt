@@ -1,12 +1,13 @@
 -- A refused step carries the lowest number that applies and leaves the row as it was; a step to which none applies is
 -- accepted.
-use Prim.Native.Nat.{ℕ, ◌≤◌}
-use mathlib.Core.Path.{◌≡◌, refl, ◌∙◌, ap}
+use Prim.Native.Nat.{ℕ}
+use mathlib.Core.Path.{◌≡◌, refl, ◌∙◌, sym, ap}
 use mathlib.Core.Bool.{true}
-use mathlib.Core.List.{List, ◌∷◌, Memᴰ}
+use mathlib.Core.List.{List, ◌∷◌}
 use Rattle.checks.specs.Checks.{outcome}
-use Rattle.checks.specs.Refusals.{Possible, refusal_in, refusals_of, numbers_of, rises, lowest}
-use Rattle.checks.proofs.LowestLaws.{first_applies, lowest_first, refusal_mapped, left_as_it_was}
+use Rattle.checks.specs.Refusals.{refusals_of, numbers_of, rises}
+use Rattle.checks.specs.Lowest.{LowestFirst}
+use Rattle.checks.proofs.LowestLaws.{refusal_mapped, accepted_mapped, left_as_it_was, orderly}
 use Rattle.state.specs.declared.Step.{Step}
 use Rattle.state.specs.declared.Step.TheVariants.{Offer, Recall, Rejoin, Bid, Write, Read, Finish, Fail, DriveOff, DriveOn}
 use Rattle.state.specs.View.{view_of, view_slot}
@@ -15,7 +16,7 @@ use Rattle.synod.specs.Slot.{Slot, Config, config_of}
 use Rattle.layout.specs.Cells.{sizes_of, off_of}
 use Rattle.room.specs.Judge.{seen, effect_by, step_rule, judged, answer_of}
 use Rattle.room.specs.Step.{settled, answered, stepped}
-use Rattle.step_laws.specs.Refusals.{refusals, own_numbers, numbers_for}
+use Rattle.step_laws.specs.Refusals.{own_numbers, numbers_for}
 
 -- the numbers of every kind's rule are those of the table
 kind : (c : Config) (off : ℕ) (σ : Slot) (st : Step) → numbers_of (refusals_of (rule_of c off σ st)) ≡ own_numbers st
@@ -32,14 +33,14 @@ kind c off σ (DriveOff d) = refl
 kind c off σ (DriveOn d) = refl
 
 -- the numbers of a step's refusals are those of the table
-pub numbers_listed : (cells : List ℕ) (st : Step) → numbers_of (refusals cells st) ≡ numbers_for st
-unfolding refusals step_rule numbers_of
+numbers_listed : (cells : List ℕ) (st : Step) → numbers_of (refusals_of (step_rule cells st)) ≡ numbers_for st
+unfolding step_rule numbers_of
 numbers_listed cells st =
     ap (λ (ns : List ℕ). 3 ∷ 4 ∷ 5 ∷ ns)
     (kind (config_of (sizes_of cells)) (off_of cells) (seen (sizes_of cells) cells (view_slot (view_of st))) st)
 
 -- and they rise, so that the first that applies is the lowest
-pub rising : (st : Step) → rises 0 (numbers_for st) ≡ true
+rising : (st : Step) → rises 0 (numbers_for st) ≡ true
 unfolding rises own_numbers
 rising (Offer p s v) = refl
 rising (Recall p s d) = refl
@@ -52,25 +53,13 @@ rising (Fail p) = refl
 rising (DriveOff d) = refl
 rising (DriveOn d) = refl
 
--- the answer refuses with the lowest number that applies, and with none where none applies
-pub answer_lowest : (cells : List ℕ) (st : Step) → refusal_in (answered cells st) ≡ lowest (refusals cells st)
-unfolding answered judged refusals
-answer_lowest cells st =
-    refusal_mapped answer_of (judged cells st)
-    ∙ refusal_mapped (effect_by cells st) (outcome (step_rule cells st))
-    ∙ first_applies (step_rule cells st)
-
--- and no lower one applies
-pub answer_least
-    : (cells : List ℕ) (st : Step) (r : Possible) → Memᴰ r (refusals cells st) → r.applies ≡ true
-    → refusal_in (answered cells st) ≤ r.number
-answer_least cells st r m e =
-    let up = ap (rises 0) (numbers_listed cells st) ∙ rising st in
-    rw (answer_lowest cells st) (lowest_first 0 (refusals cells st) up r m e).least
-
--- a refusal leaves every cell as it was
-pub refusal_leaves : (cells : List ℕ) (st : Step) → (refusal_in (answered cells st) ≡ 0 → ⊥) → stepped cells st ≡ cells
-unfolding answered stepped
-refusal_leaves cells st n =
+-- the lowest refusal that applies is given, and a refusal leaves every cell as it was
+pub step_lowest_first
+    : (cells : List ℕ) (st : Step) → LowestFirst (step_rule cells st) (numbers_for st) (answered cells st) cells (stepped cells st)
+unfolding answered stepped judged
+step_lowest_first cells st =
+    orderly (numbers_listed cells st) (rising st)
+    (refusal_mapped answer_of (judged cells st) ∙ refusal_mapped (effect_by cells st) (outcome (step_rule cells st)))
+    (λ e.
     left_as_it_was (settled (sizes_of cells) cells) cells (judged cells st)
-    (λ e. n (refusal_mapped answer_of (judged cells st) ∙ e))
+    (sym (accepted_mapped answer_of (judged cells st)) ∙ e))

@@ -1,14 +1,8 @@
--- The refusals that a step can get (SPEC, "Who can bring which number"): read off its checks and its rule, and the table of
--- their numbers, which is said here by itself.
+-- The numbers of the refusals that a step can get (SPEC, "Who can bring which number"): the table, which is said here by
+-- itself.
 use Rattle.std.specs.Prelude.{ℕ, List, [], ◌∷◌}
-use Rattle.checks.specs.Refusals.{Possible, refusals_of}
 use Rattle.state.specs.declared.Step.{Step}
 use Rattle.state.specs.declared.Step.TheVariants.{Offer, Recall, Rejoin, Bid, Write, Read, Finish, Fail, DriveOff, DriveOn}
-use Rattle.room.specs.Judge.{step_rule}
-
--- every refusal of a step, in the order of its checks
-unfoldable pub refusals : List ℕ → Step → List Possible
-refusals cells st = refusals_of (step_rule cells st)
 
 -- the numbers of each kind's own rule
 unfoldable pub own_numbers : Step → List ℕ
