@@ -14,10 +14,9 @@ use Rattle.command.specs.Command.{cabinets}
 use Rattle.layout.specs.Places.{slot_length, room_length, Row}
 use Rattle.layout.specs.Cells.{limits_of, is_row}
 use Rattle.layout.proofs.RoomLaws.{says_row}
-use Rattle.range.specs.Range.{value_fits, in_range}
 use Rattle.range.proofs.Laws.{InRange, cells_say}
 use Rattle.model.specs.Room.{Room, no_slot, slot}
-use Rattle.model.specs.Fits.{shaped, fits_by, fits}
+use Rattle.model.specs.Fits.{fits_by, fits}
 use Rattle.model.specs.Encoding.{slot_cells, cells_of, room_by, room_of, room_in}
 use Rattle.model.specs.Promise.{CellsRow, RoomAgain, RoomInCells}
 use Rattle.model.proofs.Decodes.{rows_length, state_length, read_again}

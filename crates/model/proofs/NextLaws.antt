@@ -1,10 +1,10 @@
 -- The next step of a room in terms of the rule of the step's kind: the checks of the step's numbers, and then that rule, whose record
 -- is stored as the step's view says.
 use Prim.Native.Nat.{ℕ}
-use mathlib.Core.Path.{◌≡◌, refl, ◌∙◌, ap}
+use mathlib.Core.Path.{◌≡◌, refl, ap}
 use mathlib.Core.Bool.{true, false}
 use mathlib.Core.List.{List}
-use Rattle.std.specs.Prelude.{Result, Ok, Err}
+use Rattle.std.specs.Prelude.{Result, Err}
 use Rattle.checks.specs.declared.Refusal.{Refusal}
 use Rattle.checks.specs.declared.Refusal.TheVariants.{OutOfRange, BeyondRoom, NoCommand}
 use Rattle.checks.specs.Checks.{Must, Either, Gives, must, mapped, outcome}
@@ -24,28 +24,28 @@ use Rattle.model.specs.Encoding.{room_of, next_on}
 use Rattle.model.proofs.Ranged.{ranged}
 use Rattle.model.proofs.Views.{stored_in}
 
--- a rule's refusal, or the room that it makes
-abbrev pub told : Room → (Server → Room) → Ruling → Result (Room × Answer) Refusal
-told r f x = mapped (λ y. (f y.0, y.1)) x
+-- what a rule says, whose record goes into the room by f
+abbrev pub into : (Server → Room) → Ruling → Result (Room × Answer) Refusal
+into f x = mapped (λ y. (f y.0, y.1)) x
 
-made : (r : Room) (f : Server → Room) (c : Rule) → outcome (makes f c) ≡ told r f (outcome c)
+made : (f : Server → Room) (c : Rule) → outcome (makes f c) ≡ into f (outcome c)
 unfolding must
-made r f (Must true n c) = made r f c
-made r f (Must false n c) = refl
-made r f (Either true x y) = made r f x
-made r f (Either false x y) = made r f y
-made r f (Gives x) = refl
+made f (Must true n c) = made f c
+made f (Must false n c) = refl
+made f (Either true x y) = made f x
+made f (Either false x y) = made f y
+made f (Gives x) = refl
 
 by_rule
     : (r : Room) (st : Step)
     → outcome (makes (stored_in r (view_of st)) (rule_of (config_of r.sizes) r.off (seen_at r (view_slot (view_of st))) st))
-    ≡ told r (stored_in r (view_of st)) (ruled (config_of r.sizes) r.off (seen_at r (view_slot (view_of st))) st)
-by_rule r st = made r (stored_in r (view_of st)) (rule_of (config_of r.sizes) r.off (seen_at r (view_slot (view_of st))) st)
+    ≡ into (stored_in r (view_of st)) (ruled (config_of r.sizes) r.off (seen_at r (view_slot (view_of st))) st)
+by_rule r st = made (stored_in r (view_of st)) (rule_of (config_of r.sizes) r.off (seen_at r (view_slot (view_of st))) st)
 
 -- the step's own part is its rule
 pub acts_ruled
     : (r : Room) (st : Step)
-    → outcome (acts r st) ≡ told r (stored_in r (view_of st)) (ruled (config_of r.sizes) r.off (seen_at r (view_slot (view_of st))) st)
+    → outcome (acts r st) ≡ into (stored_in r (view_of st)) (ruled (config_of r.sizes) r.off (seen_at r (view_slot (view_of st))) st)
 unfolding acts rule_of
 acts_ruled r (Offer p s c) = by_rule r (Offer p s c)
 acts_ruled r (Recall p s d) = by_rule r (Recall p s d)
@@ -64,7 +64,7 @@ pub next_ruled
     → outcome (next r st)
     ≡ must (places_fit r.sizes st) BeyondRoom
     (must (command_fits r.limits st) NoCommand
-    (told r (stored_in r (view_of st)) (ruled (config_of r.sizes) r.off (seen_at r (view_slot (view_of st))) st)))
+    (into (stored_in r (view_of st)) (ruled (config_of r.sizes) r.off (seen_at r (view_slot (view_of st))) st)))
 unfolding next
 next_ruled r st =
     ap (λ (x : Result (Room × Answer) Refusal). must (places_fit r.sizes st) BeyondRoom (must (command_fits r.limits st) NoCommand x)) (acts_ruled r st)

@@ -1,10 +1,10 @@
 -- What a row is read as has the shape of a room; where the row is in range, so is the room.
-use Prim.Native.Nat.{ℕ, ◌<◌}
-use mathlib.Core.Path.{◌≡◌, refl, ◌∙◌, sym, ap, subst}
-use mathlib.Core.Bool.{Bool, true}
+use Prim.Native.Nat.{ℕ}
+use mathlib.Core.Path.{refl, ◌∙◌, sym, ap, subst}
+use mathlib.Core.Bool.{Bool}
 use mathlib.Core.List.{List, []}
 use native.Mathlib.Omega.{arith}
-use lib.ListN.{length, get_or, drop, length-drop}
+use lib.ListN.{length, drop, length-drop}
 use lib.Seq.{length-take-le}
 use Rattle.command.specs.Command.{cabinets}
 use Rattle.state.specs.declared.Block.{Block}
@@ -16,11 +16,10 @@ use Rattle.layout.proofs.RoomLaws.{row_says}
 use Rattle.range.specs.Range.{masks_of}
 use Rattle.range.proofs.Laws.{InRange, block_fits_lem}
 use Rattle.range.proofs.RecordLaws.{ServerIn, BlockIn, server_says, block_says}
-use Rattle.model.specs.Room.{SlotState}
 use Rattle.model.specs.Encoding.{table, slot_by, room_by, room_of}
 use Rattle.model.specs.Promise.{RowAgain, RowShaped}
 use Rattle.model.proofs.Encodes.{cells_again}
-use Rattle.model.proofs.Shapes.{SlotShape, Shape, SlotIn, RoomIn, of_shape}
+use Rattle.model.proofs.Shapes.{SlotShape, Shape, RoomIn, of_shape}
 use Rattle.model.proofs.Tables.{table_at, table_length}
 use Rattle.model.proofs.Views.{slot_there, own_read, disk_read}
 

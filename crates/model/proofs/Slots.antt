@@ -29,7 +29,7 @@ use Rattle.range.proofs.RecordLaws.{ServerIn, zero_fits, command_fits_lem, drive
 use Rattle.model.specs.Concerns.{concerns_at}
 use Rattle.model.specs.Room.{SlotState, Room, no_slot, slot, seen_of, seen_at, record_on, block_on, with_slot}
 use Rattle.model.proofs.RulesKeep.{Keeps, failed_in, own_in, offer_keeps, recall_keeps, rejoin_keeps, bid_keeps, write_keeps, read_Keeps, finish_keeps}
-use Rattle.model.proofs.Shapes.{SlotShape, Shape, SlotIn, RoomIn, seen_record, seen_block, record_shape, block_shape, record_held, block_held, slot_shape, failure_slot, failure_shape, off_shape, slot_held, failure_held, off_held}
+use Rattle.model.proofs.Shapes.{Shape, SlotIn, RoomIn, seen_record, seen_block, record_shape, block_shape, record_held, block_held, slot_shape, failure_slot, failure_shape, off_shape, slot_held, failure_held, off_held}
 use Rattle.model.proofs.Tables.{got_set}
 use Rattle.model.proofs.Views.{stored_in}
 

@@ -1,6 +1,6 @@
 -- What is read of a row is what the room that it is read as holds; and what a step makes of a room, by its view.
 use Prim.Native.Nat.{ℕ, ◌<◌}
-use mathlib.Core.Path.{◌≡◌, ◌∙◌, sym, ap}
+use mathlib.Core.Path.{◌≡◌, ◌∙◌, ap}
 use mathlib.Core.List.{List, []}
 use lib.ListN.{get_or}
 use Rattle.state.specs.Block.{blank}

@@ -1,6 +1,6 @@
 -- What a room may hold (SPEC, "The room in memory"): its shape, which is how long its lists are, and apart from it what they
 -- hold.
-use Rattle.std.specs.Prelude.{ℕ, Bool, ◌&&◌, List, length, ◌==◌}
+use Rattle.std.specs.Prelude.{ℕ, Bool, ◌&&◌, length, ◌==◌}
 use Rattle.std.specs.List.{list_all}
 use Rattle.command.specs.Command.{cabinets, limits_fit}
 use Rattle.quorum.specs.Sets.{within}

@@ -1,5 +1,5 @@
 -- What is promised of the encoding (SPEC, "A room is a value"): each is the contract of a public function.
-use Rattle.std.specs.Prelude.{ℕ, true, List, Option, Some, is_some, ◌≡◌}
+use Rattle.std.specs.Prelude.{ℕ, true, List, Some, is_some, ◌≡◌}
 use Rattle.layout.specs.Cells.{is_row}
 use Rattle.range.specs.Range.{in_range}
 use Rattle.model.specs.Room.{Room}

@@ -6,15 +6,14 @@ use mathlib.Core.List.{List}
 use Rattle.std.specs.Prelude.{Result, Ok, Err}
 use Rattle.checks.specs.declared.Refusal.{Refusal}
 use Rattle.checks.specs.declared.Refusal.TheVariants.{OutOfRange, BeyondRoom, NoCommand}
-use Rattle.checks.specs.Checks.{Must, Either, Gives, must, mapped, left_by, outcome}
+use Rattle.checks.specs.Checks.{must, mapped, left_by, outcome}
 use Rattle.state.specs.declared.Answer.{Answer}
 use Rattle.state.specs.declared.Server.{Server}
 use Rattle.state.specs.declared.Sizes.{Sizes}
 use Rattle.state.specs.declared.Step.{Step}
-use Rattle.state.specs.declared.Step.TheVariants.{Offer, Recall, Rejoin, Bid, Write, Read, Finish, Fail, DriveOff, DriveOn}
 use Rattle.state.specs.View.{Brings, Stores, Alone, View, AtSlot, AtServer, AtDrive, view_of, view_slot}
 use Rattle.synod.specs.Arguments.{places_fit, command_fits}
-use Rattle.synod.specs.Rules.{Rule, Ruling, rule_of, off_after}
+use Rattle.synod.specs.Rules.{Ruling, off_after}
 use Rattle.synod.specs.Slot.{Slot, config_of}
 use Rattle.synod.proofs.Alike.{Alike, ruled_alike}
 use Rattle.synod.proofs.Machine.{ruled}
@@ -28,7 +27,7 @@ use Rattle.range.proofs.Laws.{range_says}
 use Rattle.model.specs.Room.{Room, seen_at}
 use Rattle.model.specs.Encoding.{cells_of, room_by, room_of, next_on, answers, leaves}
 use Rattle.model.proofs.Encodes.{cells_again}
-use Rattle.model.proofs.NextLaws.{told, next_ruled, row_refused, row_next}
+use Rattle.model.proofs.NextLaws.{into, next_ruled, row_refused, row_next}
 use Rattle.model.proofs.Rows.{row_shape}
 use Rattle.model.proofs.RulesKeep.{Keeps}
 use Rattle.model.proofs.Shapes.{Shape, RoomIn}
@@ -55,9 +54,9 @@ view_slot_in z f (AtSlot p s Alone) i = i.slot
 view_slot_in z f (AtServer p) i = f.one_slot
 view_slot_in z f (AtDrive d on) i = f.one_slot
 
-told_answer : (r : Room) (f : Server → Room) (x : Ruling) → answer_by x ≡ mapped (λ y. y.1) (told r f x)
-told_answer r f (Ok x) = refl
-told_answer r f (Err n) = refl
+into_answer : (f : Server → Room) (x : Ruling) → answer_by x ≡ mapped (λ y. y.1) (into f x)
+into_answer f (Ok x) = refl
+into_answer f (Err n) = refl
 
 module _ (cells : List ℕ) (st : Step) where
   abbrev pub z : Sizes
@@ -72,6 +71,10 @@ module _ (cells : List ℕ) (st : Step) where
   -- what the rule says of the cells
   abbrev pub says : Ruling
   says = ruled (config_of z) (off_of cells) (seen z cells here) st
+
+  -- and the room that it makes
+  abbrev gives : Result (Room × Answer) Refusal
+  gives = into (stored_in room (view_of st)) says
 
   three : in_range cells ≡ false → outcome (next_on cells st) ≡ Err OutOfRange
   three a = row_refused cells st a
@@ -92,9 +95,9 @@ module _ (cells : List ℕ) (st : Step) where
     pub same_ruling : ruled (config_of z) (off_of cells) (seen_at room here) st ≡ says
     same_ruling = ruled_alike z (off_of cells) (seen_alike z cells here (view_slot_in z row.fit (view_of st) (in_view z st b))) st b
 
-    acted : outcome (next_on cells st) ≡ told room (stored_in room (view_of st)) says
+    acted : outcome (next_on cells st) ≡ gives
     unfolding must room_by
-    acted = row_next cells st a ∙ next_ruled room st ∙ simp (b, c) (ap (told room (stored_in room (view_of st))) same_ruling)
+    acted = row_next cells st a ∙ next_ruled room st ∙ simp (b, c) (ap (into (stored_in room (view_of st))) same_ruling)
 
     pub shape : Shape room
     shape = row_shape z cells row
@@ -138,11 +141,11 @@ module _ (cells : List ℕ) (st : Step) where
         go (Err n) e = subst (λ (y : Ruling). P (left_by (settled z cells) cells (mapped (effect_by cells st) y))) (sym e) (refused n e)
         go (Ok (v, x)) e = subst P (sym (effect_cells v x e)) (made v x e)
 
-    left_here : left_by (λ x. cells_of x.0) cells (told room (stored_in room (view_of st)) says) ≡ left_by (settled z cells) cells (effect_of z cells st)
+    left_here : left_by (λ x. cells_of x.0) cells gives ≡ left_by (settled z cells) cells (effect_of z cells st)
     left_here =
-        by_effect (λ l. left_by (λ x. cells_of x.0) cells (told room (stored_in room (view_of st)) says) ≡ l)
-        (λ n e. ap (λ (y : Ruling). left_by (λ x. cells_of x.0) cells (told room (stored_in room (view_of st)) y)) e)
-        (λ v x e. ap (λ (y : Ruling). left_by (λ x. cells_of x.0) cells (told room (stored_in room (view_of st)) y)) e)
+        by_effect (λ l. left_by (λ x. cells_of x.0) cells gives ≡ l)
+        (λ n e. ap (λ (y : Ruling). left_by (λ x. cells_of x.0) cells (into (stored_in room (view_of st)) y)) e)
+        (λ v x e. ap (λ (y : Ruling). left_by (λ x. cells_of x.0) cells (into (stored_in room (view_of st)) y)) e)
 
   -- and of what a step leaves
   pub by_step
@@ -168,7 +171,7 @@ module _ (cells : List ℕ) (st : Step) where
       (λ a b c. sym (ap (mapped (λ x. x.1)) (five a b c)))
       (λ a b c.
       effect_answer (view_of st) _ says (plainly a b c (seen z cells here))
-      ∙ told_answer room (stored_in room (view_of st)) says
+      ∙ into_answer (stored_in room (view_of st)) says
       ∙ sym (ap (mapped (λ x. x.1)) (acted a b c)))
 
   -- and so are the cells that it leaves
