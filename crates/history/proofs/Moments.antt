@@ -31,7 +31,7 @@ use Rattle.free_slots.proofs.PutLaws.{by_put}
 use Rattle.model.specs.Concerns.{concerns}
 use Rattle.step_laws.proofs.Slots.{after_at}
 use Rattle.step_laws.proofs.StepKeeps.{Whole, effect_kept}
-use Rattle.step_laws.proofs.ByRule.{whole_tie}
+use Rattle.step_laws.proofs.SlotTie.{slot_tie}
 use Rattle.history.specs.Calls.{Call, Steps, Asks, Puts, Event, event_of, called}
 use Rattle.history.specs.Run.{Move, Rests, move_of, move_in, output_in, output_by, WhenChooses}
 use Rattle.history.proofs.SlotMoves.{Moves, rests}
@@ -40,6 +40,7 @@ use Rattle.history.proofs.StepMoves.{MovesBy, concerned}
 use Rattle.history.proofs.Answers.{refused_rests, unconcerned, answer_tie}
 use Rattle.history.proofs.Choosers.{chooses_map, chooser}
 
+-- cells that a run reaches: each slot's past and the slot that it explains, which is alike the one in the cells
 pub record Moment (limits : List ℕ) (z : Sizes) (cells : List ℕ) : Type 0 where
   pub ghosts : ℕ → Ghost
   pub slots : ℕ → Slot
@@ -89,7 +90,7 @@ module _ (limits : List ℕ) (z : Sizes) (cells : List ℕ) (now : Moment limits
   ghost_after st t =
       cond (concerns t st) (noted (g t) (σ t) st (ruled (config_of z) (off_of cells) (σ t) st)) (g t)
 
-  -- the slot after an accepted step: as it is seen in the cells, explained by its past, and what its machine did
+  -- the slot after a step whose places are in the room: as it is seen in the cells, explained by its past, and what its machine did
   record SlotAfter (t : ℕ) (st : Step) (h : Ghost) (τ there : Slot) : Type 0 where
     alike : Alike (config_of z) τ there
     holds : Invariant (config_of z) h τ
@@ -128,7 +129,7 @@ module _ (limits : List ℕ) (z : Sizes) (cells : List ℕ) (now : Moment limits
               whole = effect_kept limits z cells now.whole st h k;
               alike =
                   λ t l.
-                  alike_then (slot_after st h t l).alike (whole_tie limits z cells now.whole st h k t l);
+                  alike_then (slot_after st h t l).alike (slot_tie z cells now.whole.sizes now.whole.range.row st h t l);
               holds = λ t l. (slot_after st h t l).holds;
             };
         moves = λ t l. (slot_after st h t l).moves;

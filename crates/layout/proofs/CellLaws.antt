@@ -54,12 +54,6 @@ pub put_outside : (r : List ℕ) (at : ℕ) (xs : List ℕ) (j : ℕ) → (j < a
 put_outside r at xs j h =
     ap (λ (l : List ℕ). get_or l j 0) (put_sets r at xs) ∙ ⊎_elim (sets_below xs r at j) (sets_above xs r at j) h
 
--- a cell that is stored is what was stored
-pub put_at
-    : (r : List ℕ) (at : ℕ) (xs : List ℕ) (i : ℕ) → i < length xs → at + length xs ≤ length r
-    → get_or (put r at xs) (at + i) 0 ≡ get_or xs i 0
-put_at r at xs i h l = ap (λ (k : List ℕ). get_or k (at + i) 0) (put_sets r at xs) ∙ sets_at xs r at i (at + i) h l refl
-
 -- the cells from a place on, each of which is that of a record or a block
 pub server_read
     : (r : List ℕ) (at : ℕ) (v : Server) → ((i : ℕ) → i < server_length → get_or r (at + i) 0 ≡ get_or (server_cells v) i 0)

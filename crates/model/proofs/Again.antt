@@ -2,7 +2,7 @@
 -- that they are is it.
 use Prim.Native.Nat.{ℕ, ◌*◌}
 use mathlib.Core.Path.{◌≡◌, ◌∙◌, sym, ap}
-use mathlib.Core.Bool.{Bool, true, ◌&&◌, cond}
+use mathlib.Core.Bool.{Bool, true, cond}
 use mathlib.Core.List.{List, ◌∷◌}
 use native.Mathlib.Omega.{arith}
 use lib.ListN.{length, length-append}
@@ -12,16 +12,16 @@ use Rattle.std.specs.List.{flat_map}
 use Rattle.lemmas.proofs.Tests.{and_intro}
 use Rattle.command.specs.Command.{cabinets}
 use Rattle.layout.specs.Places.{slot_length, room_length, Row}
-use Rattle.layout.specs.Cells.{limits_of, is_row}
+use Rattle.layout.specs.Cells.{limits_of}
 use Rattle.layout.proofs.RoomLaws.{says_row}
 use Rattle.range.proofs.Laws.{InRange, cells_say}
 use Rattle.model.specs.Room.{Room, no_slot, slot}
 use Rattle.model.specs.Fits.{fits_by, fits}
-use Rattle.model.specs.Encoding.{slot_cells, cells_of, room_by, room_of, room_in}
+use Rattle.model.specs.Encoding.{slot_cells, cells_of, room_by, is_room, room_in}
 use Rattle.model.specs.Promise.{CellsRow, RoomAgain, RoomInCells}
 use Rattle.model.proofs.Decodes.{rows_length, state_length, read_again}
 use Rattle.model.proofs.Shapes.{Shape, RoomIn, shape_of, room_holds}
-use Rattle.model.proofs.Ranged.{parts_ranged}
+use Rattle.model.proofs.Ranged.{fits_ranged}
 
 module _ (r : Room) (i : Shape r) where
   pub cells_row : Row r.sizes (cells_of r)
@@ -41,7 +41,7 @@ module _ (r : Room) (i : Shape r) where
   pub cells_in : (value : ℕ → Bool) → RoomIn value r → InRange (limits_of (cells_of r)) value r.sizes (cells_of r)
   cells_in value k =
       cells_say (limits_of (cells_of r)) value r.sizes (cells_of r) cells_row
-      (sym (parts_ranged value r.sizes (cells_of r)) ∙ ap (fits_by value) (read_again r i) ∙ room_holds value r i k)
+      (sym (fits_ranged value r.sizes (cells_of r)) ∙ ap (fits_by value) (read_again r i) ∙ room_holds value r i k)
 
 pub cells_are_row : CellsRow
 unfolding cells_of
@@ -56,6 +56,6 @@ unfolding room_in cells_of
 room_in_cells r e f =
     let i = shape_of r e in
     let is = read_again r i in
-    let both : (is_row (cells_of r) && fits (room_of (cells_of r))) ≡ true
+    let both : is_room (cells_of r) ≡ true
     = and_intro _ _ (says_row (cells_of r) (cells_row r i)) (ap fits is ∙ f) in
     ap (λ (t : Bool). cond t (Some (room_by r.sizes (cells_of r))) None) both ∙ ap Some is

@@ -114,9 +114,9 @@ module _ (r : Room) (i : Shape r) where
   z = r.sizes
 
   -- slot s is its part of the cells
-  slot_there : (s : ℕ) → s < z.slots → part (cells_of r) (slot_at z s) (slot_length z) ≡ slot_cells (slot r s)
+  slot_cells_there : (s : ℕ) → s < z.slots → part (cells_of r) (slot_at z s) (slot_length z) ≡ slot_cells (slot r s)
   unfolding cells_of slot_at
-  slot_there s h =
+  slot_cells_there s h =
       let e = i.long in
       let eight = i.eight in
       let states = flat_map slot_cells r.slots in
@@ -130,7 +130,7 @@ module _ (r : Room) (i : Shape r) where
   server_read s p h l =
       sym (server_moved (cells_of r) (slot_at z s + server_length * p))
       ∙ ap (λ (xs : List ℕ). server_in xs 0)
-      (part_within (cells_of r) _ (slot_at z s) (slot_length z) (server_length * p) server_length (slot_there s h) (omega arith)
+      (part_within (cells_of r) _ (slot_at z s) (slot_length z) (server_length * p) server_length (slot_cells_there s h) (omega arith)
       ∙ server_there z (slot r s) (i.slots s h) p l)
 
   pub block_read : (s d p : ℕ) → s < z.slots → d < z.drives → p < z.servers → block_of z (cells_of r) s d p ≡ disk r s d p
@@ -141,7 +141,7 @@ module _ (r : Room) (i : Shape r) where
       sym (block_moved (cells_of r) (block_at z s d p))
       ∙ ap (λ (xs : List ℕ). block_in xs 0)
       (ap (λ (a : ℕ). part (cells_of r) a block_length) (sym same)
-      ∙ part_within (cells_of r) _ (slot_at z s) (slot_length z) at block_length (slot_there s h)
+      ∙ part_within (cells_of r) _ (slot_at z s) (slot_length z) at block_length (slot_cells_there s h)
       (let n = nth_of z i.fit d p k l in omega arith)
       ∙ block_there z (slot r s) (i.slots s h) d p k l)
 

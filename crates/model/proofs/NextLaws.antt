@@ -1,12 +1,10 @@
--- The next step of a room in terms of the rule of the step's kind: the checks of the step's numbers, and then that rule, whose record
+-- What a step makes of a room, in terms of the rule of its kind: the checks of the step's numbers, and then that rule, whose record
 -- is stored as the step's view says.
-use Prim.Native.Nat.{ℕ}
 use mathlib.Core.Path.{◌≡◌, refl, ap}
 use mathlib.Core.Bool.{true, false}
-use mathlib.Core.List.{List}
-use Rattle.std.specs.Prelude.{Result, Err}
+use Rattle.std.specs.Prelude.{Result}
 use Rattle.checks.specs.declared.Refusal.{Refusal}
-use Rattle.checks.specs.declared.Refusal.TheVariants.{OutOfRange, BeyondRoom, NoCommand}
+use Rattle.checks.specs.declared.Refusal.TheVariants.{BeyondRoom, NoCommand}
 use Rattle.checks.specs.Checks.{Must, Either, Gives, must, mapped, outcome}
 use Rattle.state.specs.declared.Answer.{Answer}
 use Rattle.state.specs.declared.Server.{Server}
@@ -17,11 +15,8 @@ use Rattle.synod.specs.Arguments.{places_fit, command_fits}
 use Rattle.synod.specs.Rules.{Rule, Ruling, rule_of}
 use Rattle.synod.specs.Slot.{config_of}
 use Rattle.synod.proofs.Machine.{ruled}
-use Rattle.range.specs.Range.{in_range}
 use Rattle.model.specs.Room.{Room, seen_at}
 use Rattle.model.specs.Next.{makes, acts, next}
-use Rattle.model.specs.Encoding.{room_of, next_on}
-use Rattle.model.proofs.Ranged.{ranged}
 use Rattle.model.proofs.Views.{stored_in}
 
 -- what a rule says, whose record goes into the room by f
@@ -68,13 +63,3 @@ pub next_ruled
 unfolding next
 next_ruled r st =
     ap (λ (x : Result (Room × Answer) Refusal). must (places_fit r.sizes st) BeyondRoom (must (command_fits r.limits st) NoCommand x)) (acts_ruled r st)
-
--- a step on a row: a row that is not in range is refused, and one that is goes on as its room
-module _ (cells : List ℕ) (st : Step) where
-  pub row_refused : in_range cells ≡ false → outcome (next_on cells st) ≡ Err OutOfRange
-  unfolding next_on must
-  row_refused a = simp (ranged cells, a)
-
-  pub row_next : in_range cells ≡ true → outcome (next_on cells st) ≡ outcome (next (room_of cells) st)
-  unfolding next_on must
-  row_next a = simp (ranged cells, a)

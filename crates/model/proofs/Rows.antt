@@ -24,8 +24,8 @@ use Rattle.model.proofs.Tables.{table_at, table_length}
 use Rattle.model.proofs.Views.{slot_there, own_read, disk_read}
 
 module _ (z : Sizes) (cells : List ℕ) where
-  slot_shape : (s : ℕ) → SlotShape z (slot_by z cells s)
-  slot_shape s =
+  read_shape : (s : ℕ) → SlotShape z (slot_by z cells s)
+  read_shape s =
       record {
         servers = table_length z.servers (server_of z cells s);
         drives = table_length z.drives (λ d. table z.servers (block_of z cells s d));
@@ -42,12 +42,12 @@ module _ (z : Sizes) (cells : List ℕ) where
         fit = row.fit;
         eight = let h = row_head z cells row in length-take-le cabinets (drop limits_at cells) (omega (arith, length-drop limits_at cells));
         long = table_length z.slots (slot_by z cells);
-        slots = λ s h. subst (SlotShape z) (sym (slot_there z cells s h)) (slot_shape s);
+        slots = λ s h. subst (SlotShape z) (sym (slot_there z cells s h)) (read_shape s);
       }
 
-  pub row_in : (value : ℕ → Bool) → InRange (limits_of cells) value z cells → RoomIn value (room_by z cells)
+  pub row_holds : (value : ℕ → Bool) → InRange (limits_of cells) value z cells → RoomIn value (room_by z cells)
   unfolding room_by
-  row_in value i =
+  row_holds value i =
       record {
         hoards = i.hoards;
         off = i.off;

@@ -26,7 +26,7 @@ use Rattle.layout.proofs.PlaceLaws.{fit_of, of_fit}
 use Rattle.range.specs.Range.{legal_drives, masks_of, server_fits, block_fits}
 use Rattle.range.proofs.RecordLaws.{ServerIn, BlockIn, says_server, says_block}
 use Rattle.model.specs.Room.{SlotState, Room, no_slot, slot, seen_of, record_on, block_on, with_slot, with_failure, with_off}
-use Rattle.model.specs.Fits.{slot_shaped, shaped, slot_in_range, fits_by}
+use Rattle.model.specs.Fits.{slot_shaped, shaped, slot_fits_by, fits_by}
 use Rattle.model.proofs.Tables.{got_set, held_set}
 
 -- what holds at each place of a list holds of each element, and the other way round
@@ -114,7 +114,7 @@ of_shape r i =
     (and_intro _ _ (eq-eqb (length r.slots) r.sizes.slots i.long)
     (all_got (slot_shaped r.sizes) r.slots no_slot (λ s h. of_slot_shape r.sizes (slot r s) (i.slots s (omega arith))))))
 
-slot_holds : (value : ℕ → Bool) (z : Sizes) (v : SlotState) → SlotShape z v → SlotIn value z v → slot_in_range value z v ≡ true
+slot_holds : (value : ℕ → Bool) (z : Sizes) (v : SlotState) → SlotShape z v → SlotIn value z v → slot_fits_by value z v ≡ true
 slot_holds value z v i k =
     let e = i.servers in
     let f = i.drives in
@@ -131,7 +131,7 @@ room_holds value r i k =
     let e = i.long in
     and_intro _ _ k.hoards
     (and_intro _ _ k.off
-    (all_got (slot_in_range value r.sizes) r.slots no_slot
+    (all_got (slot_fits_by value r.sizes) r.slots no_slot
     (λ s l. slot_holds value r.sizes (slot r s) (i.slots s (omega arith)) (k.slots s (omega arith)))))
 
 -- a slot whose record or block is changed is seen with that node

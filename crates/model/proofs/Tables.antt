@@ -5,7 +5,7 @@ use mathlib.Core.Bool.{Bool, ◌&&◌, and-true, and_assoc}
 use mathlib.Core.List.{List, ◌∷◌, ◌++◌, map}
 use native.Mathlib.Omega.{arith}
 use native.Mathlib.Nat.{add-zero}
-use lib.ListN.{length, get_or, set, take, drop, length-set}
+use lib.ListN.{length, get_or, set, take, drop}
 use lib.Seq.{take-add, drop-drop, get_or-set_same, get_or-set_other}
 use Rattle.std.specs.List.{list_all, flat_map, range_with_len}
 use Rattle.std.proofs.lemmas.List.FromFn.{length-map-range_with_len, get_or-map-range_with_len, fill_by_all}
@@ -45,14 +45,6 @@ module _ {A : Type 0} where
   pub table_same : (n : ℕ) (f g : ℕ → A) → ((i : ℕ) → i < n → f i ≡ g i) → table n f ≡ table n g
   table_same n f g h =
       fill_by_all g (table n f) n (f 0) (table_length n f) (λ k l. table_at n f (f 0) k l ∙ h k l)
-
-  pub table_set : (n : ℕ) (f : ℕ → A) (i : ℕ) (a : A) → set (table n f) i a ≡ table n (updated f i a)
-  table_set n f i a =
-      fill_by_all (updated f i a) (set (table n f) i a) n (f 0)
-      (length-set (table n f) i a ∙ table_length n f)
-      (everywhere (λ j x. j < n → get_or (set (table n f) i a) j (f 0) ≡ x) f i a
-      (λ h. let e = table_length n f in get_or-set_same (table n f) i a (f 0) (omega arith))
-      (λ j k h. get_or-set_other (table n f) i j a (f 0) k ∙ table_at n f (f 0) j h))
 
   pub table_all : (n : ℕ) (f : ℕ → A) (q : A → Bool) → list_all q (table n f) ≡ all_below n (λ i. q (f i))
   table_all n f q = list_all-map q f (range_with_len 0 n) ∙ all_listed n (λ i. q (f i))

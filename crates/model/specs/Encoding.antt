@@ -1,14 +1,9 @@
--- The cells of a room, the room that a row of cells is (SPEC, "The room in memory"), and a step on a row by both.
-use Rattle.std.specs.Prelude.{if◌then◌else◌, ℕ, ◌&&◌, List, ◌∷◌, ◌++◌, map, Option, Some, None}
+-- The cells of a room, and the room that a row of cells is (SPEC, "The room in memory", "A room is a value").
+use Rattle.std.specs.Prelude.{if◌then◌else◌, ℕ, Bool, ◌&&◌, List, ◌∷◌, ◌++◌, map, Option, Some, None}
 use Rattle.std.specs.List.{flat_map, range_with_len}
-use Rattle.checks.specs.declared.Refusal.TheVariants.{OutOfRange}
-use Rattle.checks.specs.Checks.{Must, mapped, left_by, outcome, ◌>>◌}
-use Rattle.state.specs.Answers.{Answered}
 use Rattle.state.specs.declared.Sizes.{Sizes}
-use Rattle.state.specs.declared.Step.{Step}
 use Rattle.layout.specs.Cells.{sizes_of, sizes_cells, is_row, off_of, limits_of, server_cells, server_of, block_cells, block_of}
 use Rattle.model.specs.Room.{SlotState, Room}
-use Rattle.model.specs.Next.{RoomRule, next}
 use Rattle.model.specs.Fits.{fits}
 
 -- the servers' records, then drive by drive the servers' blocks
@@ -36,24 +31,14 @@ unfoldable pub room_by : Sizes → List ℕ → Room
 room_by z cells =
     record { sizes = z; off = off_of cells; limits = limits_of cells; slots = table z.slots (slot_by z cells) }
 
--- and of the sizes in their head
+-- the cells, read as those of a room of the sizes in their head
 abbrev pub room_of : List ℕ → Room
 room_of cells = room_by (sizes_of cells) cells
 
+-- whether a row is a room: it is as long as its sizes say, and what is read of it is in range
+abbrev pub is_room : List ℕ → Bool
+is_room cells = is_row cells && fits (room_of cells)
+
 -- the room that a row is, if it is one
 unfoldable pub room_in : List ℕ → Option Room
-room_in cells = if (is_row cells && fits (room_of cells)) then (Some (room_of cells)) else None
-
--- a step on a row: that it is a room 3, then the step on the room
-unfoldable pub next_on : List ℕ → Step → RoomRule
-next_on cells st = do
-  Must (is_row cells && fits (room_of cells)) OutOfRange
-  next (room_of cells) st
-
--- what it answers
-unfoldable pub answers : List ℕ → Step → Answered
-answers cells st = mapped (λ x. x.1) (outcome (next_on cells st))
-
--- the cells that it leaves: those of the room as it becomes, or as they were where the step is refused
-unfoldable pub leaves : List ℕ → Step → List ℕ
-leaves cells st = left_by (λ x. cells_of x.0) cells (outcome (next_on cells st))
+room_in cells = if is_room cells then Some (room_of cells) else None

@@ -22,16 +22,16 @@ shaped r =
     && ((length r.limits == cabinets) && ((length r.slots == r.sizes.slots) && list_all (slot_shaped r.sizes) r.slots))
 
 -- the records and blocks of a slot are in range; value says what may be held in the place of a command
-abbrev pub slot_in_range : (ℕ → Bool) → Sizes → SlotState → Bool
-slot_in_range value z v =
+abbrev pub slot_fits_by : (ℕ → Bool) → Sizes → SlotState → Bool
+slot_fits_by value z v =
     list_all (server_fits value (masks_of z)) v.servers && list_all (list_all (block_fits value)) v.drives
 
--- so are the limits, the off marks and the slots of a room
+-- the limits, the off marks and the slots of a room are in range, by the same test
 unfoldable pub fits_by : (ℕ → Bool) → Room → Bool
 fits_by value r =
     limits_fit r.limits
-    && (within r.off (legal_drives r.sizes) && list_all (slot_in_range value r.sizes) r.slots)
+    && (within r.off (legal_drives r.sizes) && list_all (slot_fits_by value r.sizes) r.slots)
 
--- by the room's own limits: 0 or a command
+-- a room is in range by its own limits: what is held in the place of a command is 0 or one
 abbrev pub fits : Room → Bool
 fits r = fits_by (value_fits r.limits) r

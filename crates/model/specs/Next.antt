@@ -1,5 +1,5 @@
--- The ten steps on a room (SPEC, "The ten steps"): the checks in the order of their numbers, and then what becomes of the room
--- and what is answered. This is the algorithm's one Next.
+-- The ten steps on a room (SPEC, "The ten steps", "A room is a value"): the checks in the order of their numbers, and then what
+-- becomes of the room and what is answered. This is Next of appendix A.2 of Disk Paxos.
 use Rattle.checks.specs.declared.Refusal.TheVariants.{BeyondRoom, NoCommand}
 use Rattle.checks.specs.Checks.{Checked, Must, Either, Gives, ◌>>◌}
 use Rattle.quorum.specs.Marks.{marked, unmarked}

@@ -14,7 +14,7 @@ RoomWhereInRange = (cells : List ℕ) → is_some (room_in cells) ≡ in_range c
 abbrev pub RowAgain : Type 0
 RowAgain = (cells : List ℕ) → is_row cells ≡ true → cells_of (room_of cells) ≡ cells
 
--- and that room has the shape of one
+-- the room that a row is read as has the shape of one, also where it is not in range
 abbrev pub RowShaped : Type 0
 RowShaped = (cells : List ℕ) → is_row cells ≡ true → shaped (room_of cells) ≡ true
 
@@ -22,10 +22,10 @@ RowShaped = (cells : List ℕ) → is_row cells ≡ true → shaped (room_of cel
 abbrev pub CellsRow : Type 0
 CellsRow = (r : Room) → shaped r ≡ true → is_row (cells_of r) ≡ true
 
--- the room is read from them again
+-- what has the shape of a room is read from its cells again, also where it is not in range
 abbrev pub RoomAgain : Type 0
 RoomAgain = (r : Room) → shaped r ≡ true → room_of (cells_of r) ≡ r
 
--- and where it is in range, it is the room that they are
+-- a room in range is the room that its cells are
 abbrev pub RoomInCells : Type 0
 RoomInCells = (r : Room) → shaped r ≡ true → fits r ≡ true → room_in (cells_of r) ≡ Some r

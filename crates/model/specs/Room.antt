@@ -20,6 +20,7 @@ pub record Room : Type 0 where
   pub limits : List ℕ
   pub slots : List SlotState
 
+-- nothing is held
 abbrev pub no_slot : SlotState
 no_slot = record { servers = []; drives = [] }
 
@@ -54,18 +55,19 @@ block_on v d p b = record v { drives = set v.drives d (set (get_or v.drives d []
 abbrev pub with_slot : Room → ℕ → SlotState → Room
 with_slot r s v = record r { slots = set r.slots s v }
 
--- The four ways in which a step changes a room: server p has this record in slot s;
+-- The four ways in which a step changes a room.
+-- the room in which server p has this record in slot s
 abbrev pub with_server : Room → ℕ → ℕ → Server → Room
 with_server r s p w = with_slot r s (record_on (slot r s) p w)
 
--- it has, and its own block stands on drive d;
+-- the room in which it has, and the own block of that record stands on drive d
 abbrev pub with_write : Room → ℕ → ℕ → ℕ → Server → Room
 with_write r s p d w = with_slot r s (block_on (record_on (slot r s) p w) d p (own_block w))
 
--- server p has failed in every slot;
+-- the room in which server p has failed in every slot
 abbrev pub with_failure : Room → ℕ → Room
 with_failure r p = record r { slots = map (λ v. record_on v p failed) r.slots }
 
--- these are the off marks
+-- the room with these off marks
 abbrev pub with_off : Room → ℕ → Room
 with_off r off = record r { off = off }

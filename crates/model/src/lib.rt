@@ -1,5 +1,5 @@
-// A room as a value, its one next step, and the row that is its encoding: definitions, and what is promised of them. There is no
-// code here.
+// A room as a value, what each of the ten steps makes of it, and the row that is its encoding: definitions, and what is promised
+// of them. There is no code here.
 #![tactic(auto)]
 
 ghost use Rattle.model.specs.Promise.{RoomWhereInRange, RowAgain, RowShaped, CellsRow, RoomAgain, RoomInCells};

@@ -61,7 +61,7 @@ module _ (cells : List ℕ) (p s : ℕ) where
   -- a wish that is given
   record Wished (o : Option Step) (st : Step) : Type 0 where
     wish : o ≡ Some st
-    fits : accepted (answered cells st) ≡ true
+    is_accepted : accepted (answered cells st) ≡ true
 
   wish_given : (o : Option Step) (st : Step) → option_and_then (if_accepted cells) o ≡ Some st → Wished o st
   wish_given None st e = no_step st e
@@ -70,7 +70,7 @@ module _ (cells : List ℕ) (p s : ℕ) where
       (λ t.
       let same : Some y ≡ Some st = sym (simp t) ∙ e in
       let is : y ≡ st = cc in
-      record { wish = same; fits = subst (λ x. accepted (answered cells x) ≡ true) is t })
+      record { wish = same; is_accepted = subst (λ x. accepted (answered cells x) ≡ true) is t })
       (λ t. no_step st (sym (simp t) ∙ e))
 
   abbrev own : Server
@@ -117,7 +117,7 @@ pub next_given : (cells : List ℕ) (p s : ℕ) → Given cells p s
 unfolding next_of
 next_given cells p s =
     record {
-      step_accepted = λ st e. (given cells p s st e).fits;
+      step_accepted = λ st e. (given cells p s st e).is_accepted;
       least =
           λ q t b e.
           ballot_answered (sizes_of cells).servers p _ b

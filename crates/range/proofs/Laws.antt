@@ -1,7 +1,7 @@
 -- Laws of the range rule: the order of its tests, and what it says of each record and block, whatever the test of a value;
 -- that a value is 0 or a command by the room's limits is one such test.
 use Prim.Native.Nat.{ℕ, ◌+◌, ◌*◌, ◌<◌}
-use mathlib.Core.Path.{◌≡◌, ◌∙◌, sym, ap₂, subst, subst⁻¹}
+use mathlib.Core.Path.{◌≡◌, ◌∙◌, sym, ap₂, subst}
 use mathlib.Core.Bool.{Bool, true, false, ◌&&◌}
 use mathlib.Core.List.{List}
 use Rattle.lemmas.proofs.Tests.{and_left, and_right, and_intro, none_left, none_right}
@@ -13,7 +13,7 @@ use Rattle.layout.specs.Places.{nth_block_at, block_at, Row}
 use Rattle.layout.specs.Cells.{sizes_of, is_row, off_of, limits_of, server_of, block_of, block_in}
 use Rattle.layout.proofs.PlaceLaws.{nth_of}
 use Rattle.layout.proofs.RoomLaws.{row_says, says_row}
-use Rattle.range.specs.Range.{legal_drives, masks_of, value_fits, server_fits, block_fits, servers_fit, blocks_fit, slot_fits, room_fits, in_range}
+use Rattle.range.specs.Range.{legal_drives, masks_of, value_fits, server_fits, block_fits, servers_fit, blocks_fit, slot_fits, room_fits_by, room_fits, in_range}
 
 -- a row that is no room, and one that is
 pub no_row : (r : List ℕ) → is_row r ≡ false → in_range r ≡ false
@@ -29,11 +29,7 @@ pub unfit_limits : (r : List ℕ) → limits_fit (limits_of r) ≡ false → in_
 unfolding in_range room_fits
 unfit_limits r e = none_right (is_row r) _ (none_left (limits_fit (limits_of r)) _ e)
 
--- the limits, the off marks and the slots of a row, by a test of a value
-abbrev pub parts_fit : List ℕ → (ℕ → Bool) → Sizes → List ℕ → Bool
-parts_fit limits value z r = limits_fit limits && (within (off_of r) (legal_drives z) && all_below z.slots (slot_fits value z r))
-
--- such a row, part by part
+-- a row whose parts are in range by a test of a value, part by part
 pub record InRange (limits : List ℕ) (value : ℕ → Bool) (z : Sizes) (r : List ℕ) : Type 0 where
   pub row : Row z r
   pub hoards : limits_fit limits ≡ true
@@ -48,7 +44,7 @@ module _ (limits : List ℕ) (value : ℕ → Bool) (z : Sizes) (r : List ℕ) w
   unfolding block_of block_at
   block_fits_lem i s d p h l k = i.nths s (d * z.servers + p) h (nth_of z i.row.fit d p l k)
 
-  pub cells_say : Row z r → parts_fit limits value z r ≡ true → InRange limits value z r
+  pub cells_say : Row z r → room_fits_by value limits z r ≡ true → InRange limits value z r
   unfolding slot_fits servers_fit blocks_fit
   cells_say row e =
       let hoards = limits_fit limits in
@@ -70,7 +66,7 @@ module _ (limits : List ℕ) (value : ℕ → Bool) (z : Sizes) (r : List ℕ) w
             (and_right (servers_fit value z r s) (blocks_fit value z r s) (slot s h)) k l;
       }
 
-  pub say_cells : InRange limits value z r → parts_fit limits value z r ≡ true
+  pub say_cells : InRange limits value z r → room_fits_by value limits z r ≡ true
   unfolding slot_fits servers_fit blocks_fit
   say_cells i =
       let off = within (off_of r) (legal_drives z) in
@@ -92,12 +88,8 @@ unfolding in_range room_fits
 range_says r e =
     let limits = limits_of r in
     let z = sizes_of r in
-    let fits = parts_fit limits (value_fits limits) z r in
+    let fits = room_fits_by (value_fits limits) limits z r in
     cells_say limits (value_fits limits) z r (row_says r (and_left (is_row r) fits e)) (and_right (is_row r) fits e)
-
--- it is a row of the sizes that it claims
-pub ranged_row : (r : List ℕ) (z : Sizes) → in_range r ≡ true → z ≡ sizes_of r → Row z r
-ranged_row r z e is = subst⁻¹ (λ (y : Sizes). Row y r) is (range_says r e).row
 
 pub Says-range
     : (limits : List ℕ) (z : Sizes) (r : List ℕ) → limits ≡ limits_of r → z ≡ sizes_of r → Ranged limits z r

@@ -85,11 +85,14 @@ blocks_fit value z cells s = all_below (z.drives * z.servers) (λ j. block_fits 
 unfoldable pub slot_fits : (ℕ → Bool) → Sizes → List ℕ → ℕ → Bool
 slot_fits value z cells s = servers_fit value z cells s && blocks_fit value z cells s
 
--- the limits, the off marks and the slots of a room of these sizes
+-- the limits, the off marks and the slots of a room of these sizes; value says what a cell that holds a command may hold
+abbrev pub room_fits_by : (ℕ → Bool) → List ℕ → Sizes → List ℕ → Bool
+room_fits_by value limits z cells =
+    limits_fit limits && (within (off_of cells) (legal_drives z) && all_below z.slots (slot_fits value z cells))
+
+-- by the room's limits: 0 or a command
 unfoldable pub room_fits : List ℕ → Sizes → List ℕ → Bool
-room_fits limits z cells =
-    limits_fit limits
-    && (within (off_of cells) (legal_drives z) && all_below z.slots (slot_fits (value_fits limits) z cells))
+room_fits limits z cells = room_fits_by (value_fits limits) limits z cells
 
 -- a row that is a room with every cell in range
 unfoldable pub in_range : List ℕ → Bool

@@ -25,9 +25,11 @@ use Rattle.range.specs.Range.{masks_of, in_range}
 use Rattle.range.proofs.RecordLaws.{ServerIn}
 use Rattle.range.proofs.Laws.{range_says}
 use Rattle.model.specs.Room.{Room, seen_at}
-use Rattle.model.specs.Encoding.{cells_of, room_by, room_of, next_on, answers, leaves}
+use Rattle.model.specs.Next.{next}
+use Rattle.model.specs.Encoding.{cells_of, room_by, room_of}
 use Rattle.model.proofs.Encodes.{cells_again}
-use Rattle.model.proofs.NextLaws.{into, next_ruled, row_refused, row_next}
+use Rattle.model.proofs.NextLaws.{into, next_ruled}
+use Rattle.model.proofs.Ranged.{ranged}
 use Rattle.model.proofs.Rows.{row_shape}
 use Rattle.model.proofs.RulesKeep.{Keeps}
 use Rattle.model.proofs.Shapes.{Shape, RoomIn}
@@ -37,6 +39,7 @@ use Rattle.model.proofs.Views.{own_read, disk_read, stored_in}
 use Rattle.room.specs.declared.effect.Effect.{Effect}
 use Rattle.room.specs.Judge.{seen, effect_at, effect_by, effect_of, judged, answer_of}
 use Rattle.room.specs.Step.{settled, answered, stepped}
+use Rattle.room.specs.ByNext.{next_on, answers, leaves}
 use Rattle.room.proofs.Answering.{answer_by, effect_answer}
 use Rattle.room.proofs.Checks.{by_checks}
 use Rattle.room.proofs.Effects.{written_put, failure_put}
@@ -76,34 +79,17 @@ module _ (cells : List ℕ) (st : Step) where
   abbrev gives : Result (Room × Answer) Refusal
   gives = into (stored_in room (view_of st)) says
 
-  three : in_range cells ≡ false → outcome (next_on cells st) ≡ Err OutOfRange
-  three a = row_refused cells st a
+  pub plainly : (τ : Slot) → Plain (view_of st) (ruled (config_of z) (off_of cells) τ st)
+  plainly τ = plain (config_of z) (off_of cells) τ st
 
-  four : in_range cells ≡ true → places_fit z st ≡ false → outcome (next_on cells st) ≡ Err BeyondRoom
-  unfolding must room_by
-  four a b = row_next cells st a ∙ next_ruled room st ∙ simp b
-
-  five : in_range cells ≡ true → places_fit z st ≡ true → command_fits (limits_of cells) st ≡ false → outcome (next_on cells st) ≡ Err NoCommand
-  unfolding must room_by
-  five a b c = row_next cells st a ∙ next_ruled room st ∙ simp (b, c)
-
-  module _ (a : in_range cells ≡ true) (b : places_fit z st ≡ true) (c : command_fits (limits_of cells) st ≡ true) where
-    pub row : Row z cells
-    row = (range_says cells a).row
+  -- a row of the sizes in its head, in range or not, and a step whose places are in the room
+  module _ (row : Row z cells) (b : places_fit z st ≡ true) where
+    pub shape : Shape room
+    shape = row_shape z cells row
 
     -- the rule says the same of the room
     pub same_ruling : ruled (config_of z) (off_of cells) (seen_at room here) st ≡ says
     same_ruling = ruled_alike z (off_of cells) (seen_alike z cells here (view_slot_in z row.fit (view_of st) (in_view z st b))) st b
-
-    acted : outcome (next_on cells st) ≡ gives
-    unfolding must room_by
-    acted = row_next cells st a ∙ next_ruled room st ∙ simp (b, c) (ap (into (stored_in room (view_of st))) same_ruling)
-
-    pub shape : Shape room
-    shape = row_shape z cells row
-
-    pub plainly : (τ : Slot) → Plain (view_of st) (ruled (config_of z) (off_of cells) τ st)
-    plainly τ = plain (config_of z) (off_of cells) τ st
 
     -- the record of the rule is in range where the room is, by any test of a value that 0 and the command of the step pass
     pub record_in
@@ -147,6 +133,33 @@ module _ (cells : List ℕ) (st : Step) where
         (λ n e. ap (λ (y : Ruling). left_by (λ x. cells_of x.0) cells (into (stored_in room (view_of st)) y)) e)
         (λ v x e. ap (λ (y : Ruling). left_by (λ x. cells_of x.0) cells (into (stored_in room (view_of st)) y)) e)
 
+  three : in_range cells ≡ false → outcome (next_on cells st) ≡ Err OutOfRange
+  unfolding next_on must
+  three a = simp (ranged cells, a)
+
+  -- in a row in range the room decides
+  goes_on : in_range cells ≡ true → outcome (next_on cells st) ≡ outcome (next room st)
+  unfolding next_on must
+  goes_on a = simp (ranged cells, a)
+
+  four : in_range cells ≡ true → places_fit z st ≡ false → outcome (next_on cells st) ≡ Err BeyondRoom
+  unfolding must room_by
+  four a b = goes_on a ∙ next_ruled room st ∙ simp b
+
+  five : in_range cells ≡ true → places_fit z st ≡ true → command_fits (limits_of cells) st ≡ false → outcome (next_on cells st) ≡ Err NoCommand
+  unfolding must room_by
+  five a b c = goes_on a ∙ next_ruled room st ∙ simp (b, c)
+
+  row_of : in_range cells ≡ true → Row z cells
+  row_of a = (range_says cells a).row
+
+  acted
+      : (a : in_range cells ≡ true) (b : places_fit z st ≡ true) → command_fits (limits_of cells) st ≡ true
+      → outcome (next_on cells st) ≡ gives
+  unfolding must room_by
+  acted a b c =
+      goes_on a ∙ next_ruled room st ∙ simp (b, c) (ap (into (stored_in room (view_of st))) (same_ruling (row_of a) b))
+
   -- and of what a step leaves
   pub by_step
       : (P : List ℕ → Type 0) → P cells
@@ -159,7 +172,7 @@ module _ (cells : List ℕ) (st : Step) where
       (λ a. same)
       (λ a b. same)
       (λ a b c. same)
-      (λ a b c. by_effect a b c P (λ n e. same) (λ v x e. made a b c v x e))
+      (λ a b c. by_effect (row_of a) b P (λ n e. same) (λ v x e. made a b c v x e))
 
   -- the answer is the same
   pub same_answer : answered cells st ≡ answers cells st
@@ -170,7 +183,7 @@ module _ (cells : List ℕ) (st : Step) where
       (λ a b. sym (ap (mapped (λ x. x.1)) (four a b)))
       (λ a b c. sym (ap (mapped (λ x. x.1)) (five a b c)))
       (λ a b c.
-      effect_answer (view_of st) _ says (plainly a b c (seen z cells here))
+      effect_answer (view_of st) _ says (plainly (seen z cells here))
       ∙ into_answer (stored_in room (view_of st)) says
       ∙ sym (ap (mapped (λ x. x.1)) (acted a b c)))
 
@@ -182,7 +195,7 @@ module _ (cells : List ℕ) (st : Step) where
       (λ a. sym (ap (left_by (λ x. cells_of x.0) cells) (three a)))
       (λ a b. sym (ap (left_by (λ x. cells_of x.0) cells) (four a b)))
       (λ a b c. sym (ap (left_by (λ x. cells_of x.0) cells) (five a b c)))
-      (λ a b c. sym (ap (left_by (λ x. cells_of x.0) cells) (acted a b c) ∙ left_here a b c))
+      (λ a b c. sym (ap (left_by (λ x. cells_of x.0) cells) (acted a b c) ∙ left_here (row_of a) b))
 
 module _ (cells : List ℕ) (st : Step) where
   -- what is answered and left by a judgement is what next gives

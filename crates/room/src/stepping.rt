@@ -1,8 +1,7 @@
 // One step on a lent room.
 ghost use Rattle.std.specs.Prelude.{◌≡◌, ◌<◌};
 ghost use Rattle.layout.specs.Cells.{sizes_of};
-ghost use Rattle.model.specs.Encoding.{answers, leaves};
-ghost use Rattle.room.specs.ByNext.{AnswersNext, LeavesNext};
+ghost use Rattle.room.specs.ByNext.{answers, leaves, AnswersNext, LeavesNext};
 ghost use Rattle.room.specs.Ready.{Ready};
 ghost use Rattle.room.specs.Step.{failed_below, settled, answered, stepped};
 
@@ -11,11 +10,11 @@ use checks::Refusal;
 use layout::rooms::RoomMut;
 use state::{Answer, Step};
 
-/// Takes the step on a lent room. Answers what the rules give, or why the step is refused; a refusal changes no cell.
+/// Takes the step on a lent room. Answers what its rule gives, or why it is refused; a refusal changes no cell.
 ///
-/// Any row and any step may be passed. Refused are: a row that is no room in range (3), a place beyond the room (4), what is no
-/// command by the room's limits (5), and what the kind of the step refuses (6 to 13). By the cells this is `answered` and
-/// `stepped`; by the room that the row is, it is what its one next step gives.
+/// Any row and any step may be passed. Refused are a row that is no room in range (3), a place beyond the room (4), what is no
+/// command by the room's limits (5), and what the kind of the step refuses (6 to 13). What is answered and left is said twice: by the
+/// cells, as `answered` and `stepped`, and by the room that the row is, as `answers` and `leaves`, which are what `next` gives.
 #[tactic(auto, using(crate::proofs::ReadyLaws::judged_ready), unfolding(crate::specs::Step::answered, crate::specs::Step::stepped))]
 pub fn step(room: &mut [u32], step: Step) -> Result<Answer, Refusal>
     ensures cells { (result ≡ answered room.old step) × (room.new ≡ stepped room.old step) }
@@ -67,8 +66,7 @@ fn fail(room: &mut RoomMut, p: u32)
     }
 }
 
-/// For every row and every step, what `step` answers and leaves is what the next step of the room that the row is gives, by the
-/// encoding of rooms as cells.
+/// A step on a row is the step on its room: for every row and every step, `answered` is `answers`, and `stepped` is `leaves`.
 #[tactic(auto, using(crate::proofs::Bridge::same_answer, crate::proofs::Bridge::same_cells))]
 pub fn step_is_next()
     ensures answers { AnswersNext }

@@ -1,6 +1,6 @@
 -- A step leaves every slot that it does not concern as it was: only Fail concerns more than the slot it names.
 use Prim.Native.Nat.{ℕ, ◌<◌}
-use mathlib.Core.Path.{◌≡◌}
+use mathlib.Core.Path.{◌≡◌, refl}
 use mathlib.Core.Bool.{false}
 use mathlib.Core.List.{List}
 use Rattle.checks.specs.Checks.{left_by}
@@ -8,6 +8,7 @@ use Rattle.state.specs.declared.Step.{Step}
 use Rattle.synod.specs.Slot.{config_of}
 use Rattle.synod.proofs.Alike.{Alike, alike_same}
 use Rattle.layout.specs.Cells.{sizes_of}
+use Rattle.range.proofs.Laws.{range_says}
 use Rattle.room.specs.Judge.{seen}
 use Rattle.room.specs.Step.{settled, stepped}
 use Rattle.room.proofs.Checks.{by_checks}
@@ -26,4 +27,4 @@ Slot-kept cells st t h e =
     (λ a. alike_same (config_of z) (seen z cells t))
     (λ a b. alike_same (config_of z) (seen z cells t))
     (λ a b c. alike_same (config_of z) (seen z cells t))
-    (λ a b c. rw e at (slot_tie cells st a b c t h))
+    (λ a b c. rw e at (slot_tie z cells refl (range_says cells a).row st b t h))

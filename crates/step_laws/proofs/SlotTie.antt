@@ -10,15 +10,15 @@ use Rattle.checks.specs.Checks.{left_by}
 use Rattle.state.specs.declared.Sizes.{Sizes}
 use Rattle.state.specs.declared.Step.{Step}
 use Rattle.state.specs.View.{View, AtSlot, AtServer, AtDrive, view_of, view_slot}
-use Rattle.synod.specs.Arguments.{places_fit, command_fits}
+use Rattle.synod.specs.Arguments.{places_fit}
 use Rattle.synod.specs.Rules.{Ruling}
 use Rattle.synod.specs.Slot.{Slot, config_of}
 use Rattle.synod.proofs.Alike.{Alike, alike_same, alike_then, after_alike}
 use Rattle.synod.proofs.Machine.{ruled, after}
 use Rattle.synod.proofs.Places.{in_view}
 use Rattle.synod.proofs.Rulings.{Plain}
-use Rattle.layout.specs.Cells.{sizes_of, limits_of, off_of}
-use Rattle.range.specs.Range.{in_range}
+use Rattle.layout.specs.Places.{Row}
+use Rattle.layout.specs.Cells.{sizes_of, off_of}
 use Rattle.room.specs.Judge.{seen, effect_of}
 use Rattle.room.specs.Step.{settled}
 use Rattle.model.specs.Concerns.{concerns_at, concerns}
@@ -41,7 +41,7 @@ one_rule σ (AtDrive d on) f plainly t e = absurd (true≢false (sym e))
 cells_seen : (r : Room) (i : Shape r) (t : ℕ) → t < r.sizes.slots → Alike (config_of r.sizes) (seen_at r t) (seen r.sizes (cells_of r) t)
 cells_seen r i t h p l = record { own = sym (server_read r i t p h l); disk = λ d k. sym (block_read r i t d p h k l) }
 
-module _ (r : List ℕ) (st : Step) (i : in_range r ≡ true) (b : places_fit (sizes_of r) st ≡ true) (c : command_fits (limits_of r) st ≡ true) where
+module _ (r : List ℕ) (st : Step) (row : Row (sizes_of r) r) (b : places_fit (sizes_of r) st ≡ true) where
   abbrev z : Sizes
   z = sizes_of r
 
@@ -53,23 +53,33 @@ module _ (r : List ℕ) (st : Step) (i : in_range r ≡ true) (b : places_fit (s
 
   same : (t : ℕ) (x : Ruling) → says r st ≡ x → concerns t st ≡ true → rule (σ t) ≡ x
   unfolding concerns
-  same t x e k = sym (one_rule σ (view_of st) rule (plainly r st i b c) t k) ∙ e
+  same t x e k = sym (one_rule σ (view_of st) rule (plainly r st) t k) ∙ e
 
   room_seen : (t : ℕ) → t < z.slots → Alike (config_of z) (σ t) (seen_at (room r st) t)
   room_seen t h p l = let like = seen_alike z r t h p l in record { own = sym like.own; disk = λ d k. sym (like.disk d k) }
 
-  pub slot_tie
+  own_tie
       : (t : ℕ) → t < z.slots → Alike (config_of z) (after_at z (off_of r) t (σ t) st) (seen z (left_by (settled z r) r (effect_of z r st)) t)
   unfolding after_at after concerns room_by
-  slot_tie t h =
-      by_effect r st i b c (λ l. Alike (config_of z) (after_at z (off_of r) t (σ t) st) (seen z l t))
+  own_tie t h =
+      by_effect r st row b (λ l. Alike (config_of z) (after_at z (off_of r) t (σ t) st) (seen z l t))
       (λ n e. by_test (concerns t st) (λ k. rw (k, same t (Err n) e k) (alike_same (config_of z) (σ t))) (λ k. rw k (alike_same (config_of z) (σ t))))
       (λ v x e.
       let u = stored_in (room r st) (view_of st) v in
-      let made = stored_seen (room r st) (shape r st i b c) (view_of st) v x (in_view z st b) (subst (Plain (view_of st)) e (plainly r st i b c (σ (view_slot (view_of st))))) t h in
+      let made = stored_seen (room r st) (shape r st row b) (view_of st) v x (in_view z st b) (subst (Plain (view_of st)) e (plainly r st (σ (view_slot (view_of st))))) t h in
       alike_then
       (by_test (concerns t st)
       (λ k. rw (k, same t (Ok (v, x)) e k) (after_alike (room_seen t h) st (Ok (v, x))))
       (λ k. rw k (room_seen t h)))
       (subst (λ (τ : Slot). Alike (config_of z) τ (seen z (cells_of u) t)) made
-      (cells_seen u (stored_shape (room r st) (shape r st i b c) (view_of st) v (in_view z st b)) t h)))
+      (cells_seen u (stored_shape (room r st) (shape r st row b) (view_of st) v (in_view z st b)) t h)))
+
+-- the same for sizes that are known to be those in the row's head
+pub slot_tie
+    : (z : Sizes) (r : List ℕ) → sizes_of r ≡ z → Row z r → (st : Step) → places_fit z st ≡ true → (t : ℕ) → t < z.slots
+    → Alike (config_of z) (after_at z (off_of r) t (seen z r t) st) (seen z (left_by (settled z r) r (effect_of z r st)) t)
+slot_tie z r e =
+    subst
+    (λ (y : Sizes). Row y r → (st : Step) → places_fit y st ≡ true → (t : ℕ) → t < y.slots
+    → Alike (config_of y) (after_at y (off_of r) t (seen y r t) st) (seen y (left_by (settled y r) r (effect_of y r st)) t)) e
+    (λ row st b t h. own_tie r st row b t h)
