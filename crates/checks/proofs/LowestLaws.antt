@@ -1,5 +1,5 @@
--- The answer carries the first refusal that applies, and none where none applies; where the numbers rise, the first is
--- the lowest.
+-- The answer carries the first refusal that applies, and none where none applies; where the numbers rise, the first is the
+-- lowest. A refused call leaves what was lent. Both at once are `orderly`.
 use Prim.Native.Nat.{ℕ, ◌<◌, ◌≤◌}
 use mathlib.Core.Path.{◌≡◌, refl, ◌∙◌, sym, ap}
 use mathlib.Core.Bool.{true, false, true≢false}

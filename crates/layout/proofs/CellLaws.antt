@@ -1,14 +1,15 @@
--- What is read after cells are stored: at the place itself, and at any place apart from it.
-use Prim.Native.Nat.{ℕ, zero, suc, ◌+◌, ◌<◌, ◌≤◌}
+-- A row in which cells are stored: its length, the cells outside, and its parts; and that a record or a block is read from its
+-- own cells alone.
+use Prim.Native.Nat.{ℕ, suc, ◌+◌, ◌<◌, ◌≤◌}
 use mathlib.Core.Path.{◌≡◌, refl, ◌∙◌, sym, ap}
 use mathlib.Core.List.{List, [], ◌∷◌, ◌++◌}
 use mathlib.Core.Logic.{◌⊎◌, ⊎_elim}
 use native.Mathlib.Omega.{arith}
 use native.Mathlib.Nat.{add-zero}
-use lib.ListN.{length, get_or, set, take, drop, length-set}
+use lib.ListN.{length, get_or, set, take, drop}
 use Rattle.std.proofs.lemmas.List.{get_or-take, get_or-drop, append_assoc, length-drop}
 use borrow.Rule.Slice.PartMut.{put_mid}
-use lib.Seq.{sets, sets-eq, length-sets, drop-drop, length-take-le, get_or-set_same, get_or-set_other}
+use lib.Seq.{sets, sets-eq, length-sets, drop-drop, length-take-le, get_or-set_other}
 use Rattle.state.specs.declared.Block.{Block}
 use Rattle.state.specs.declared.Server.{Server}
 use Rattle.layout.specs.Places.{server_length, block_length}
@@ -21,7 +22,7 @@ from_sets (x ∷ xs) r at k =
     let next : at + (k + 1) ≡ suc (at + k) = omega arith in
     from_sets xs (set r (at + k) x) at (k + 1) ∙ ap (λ (j : ℕ). sets (set r (at + k) x) j xs) next
 
-put_sets : (r : List ℕ) (at : ℕ) (xs : List ℕ) → put r at xs ≡ sets r at xs
+pub put_sets : (r : List ℕ) (at : ℕ) (xs : List ℕ) → put r at xs ≡ sets r at xs
 put_sets r at [] = refl
 put_sets r at (x ∷ xs) =
     let next : at + 1 ≡ suc at = omega arith in
@@ -34,17 +35,6 @@ sets_below (x ∷ xs) r at j h = sets_below xs (set r at x) (suc at) j (omega ar
 sets_above : (xs r : List ℕ) (at j : ℕ) → at + length xs ≤ j → get_or (sets r at xs) j 0 ≡ get_or r j 0
 sets_above [] r at j h = refl
 sets_above (x ∷ xs) r at j h = sets_above xs (set r at x) (suc at) j (omega arith) ∙ get_or-set_other r at j x 0 (omega arith)
-
-sets_at : (xs r : List ℕ) (at i j : ℕ) → i < length xs → at + length xs ≤ length r → at + i ≡ j → get_or (sets r at xs) j 0 ≡ get_or xs i 0
-sets_at [] r at i j h l e = absurd (omega arith)
-sets_at (x ∷ xs) r at zero j h l e =
-    let same : j ≡ at = omega arith in
-    ap (λ (k : ℕ). get_or (sets (set r at x) (suc at) xs) k 0) same
-    ∙ sets_below xs (set r at x) (suc at) at (omega arith)
-    ∙ get_or-set_same r at x 0 (omega arith)
-sets_at (x ∷ xs) r at (suc i) j h l e =
-    let n : length (set r at x) ≡ length r = length-set r at x in
-    sets_at xs (set r at x) (suc at) i j (omega arith) (omega arith) (omega arith)
 
 pub put-length : (r : List ℕ) (at : ℕ) (xs : List ℕ) → length (put r at xs) ≡ length r
 put-length r at xs = ap length (put_sets r at xs) ∙ length-sets r at xs

@@ -1,4 +1,4 @@
--- Places are within the room's length, and two different places are disjoint.
+-- Sizes that fit, and that places are within the room's length and behind its head.
 use Prim.Native.Nat.{ℕ, ◌+◌, ◌*◌, ◌<◌, ◌≤◌}
 use mathlib.Core.Path.{◌≡◌, ap}
 use mathlib.Core.Bool.{true, ◌&&◌}

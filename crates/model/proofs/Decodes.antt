@@ -82,14 +82,14 @@ module _ (z : Sizes) (v : SlotState) (i : SlotShape z v) where
         rows_length (flat_map block_cells) (block_length * z.servers) [] v.drives drive_length,
       )
 
-  pub server_there : (p : ℕ) → p < z.servers → part (slot_cells v) (server_length * p) server_length ≡ server_cells (seen_of v p).own
+  server_there : (p : ℕ) → p < z.servers → part (slot_cells v) (server_length * p) server_length ≡ server_cells (seen_of v p).own
   server_there p h =
       let e = i.servers in
       let k : server_length * p ≡ p * server_length = omega arith in
       ap (λ (n : ℕ). part (slot_cells v) n server_length) k
       ∙ part_at server_cells server_length failed v.servers (λ j l. refl) p (omega arith) (flat_map (flat_map block_cells) v.drives)
 
-  pub block_there
+  block_there
       : (d p : ℕ) → d < z.drives → p < z.servers
       → part (slot_cells v) (server_length * z.servers + block_length * (d * z.servers + p)) block_length ≡ block_cells ((seen_of v p).disk d)
   block_there d p h l =
@@ -125,17 +125,17 @@ module _ (r : Room) (i : Shape r) where
       ∙ ap (λ (xs : List ℕ). part xs (s * slot_length z) (slot_length z)) (sym (append-nil states))
       ∙ part_at slot_cells (slot_length z) no_slot r.slots (λ j l. state_length z (slot r j) (i.slots j (omega arith))) s (omega arith) []
 
-  pub server_read : (s p : ℕ) → s < z.slots → p < z.servers → server_of z (cells_of r) s p ≡ own r s p
+  pub own_again : (s p : ℕ) → s < z.slots → p < z.servers → server_of z (cells_of r) s p ≡ own r s p
   unfolding server_of server_at slot_length
-  server_read s p h l =
+  own_again s p h l =
       sym (server_moved (cells_of r) (slot_at z s + server_length * p))
       ∙ ap (λ (xs : List ℕ). server_in xs 0)
       (part_within (cells_of r) _ (slot_at z s) (slot_length z) (server_length * p) server_length (slot_cells_there s h) (omega arith)
       ∙ server_there z (slot r s) (i.slots s h) p l)
 
-  pub block_read : (s d p : ℕ) → s < z.slots → d < z.drives → p < z.servers → block_of z (cells_of r) s d p ≡ disk r s d p
+  pub disk_again : (s d p : ℕ) → s < z.slots → d < z.drives → p < z.servers → block_of z (cells_of r) s d p ≡ disk r s d p
   unfolding block_of block_at nth_block_at slot_length
-  block_read s d p h k l =
+  disk_again s d p h k l =
       let at = server_length * z.servers + block_length * (d * z.servers + p) in
       let same : slot_at z s + at ≡ slot_at z s + server_length * z.servers + block_length * (d * z.servers + p) = omega arith in
       sym (block_moved (cells_of r) (block_at z s d p))
@@ -152,8 +152,8 @@ module _ (r : Room) (i : Shape r) where
       let limits : limits_of (cells_of r) ≡ r.limits = unfold cells_of in take_at r.limits (flat_map slot_cells r.slots) cabinets i.eight in
       let each : (s : ℕ) → s < z.slots → slot_by z (cells_of r) s ≡ slot r s
       = λ s h.
-      let servers = table_same z.servers _ _ (λ p l. server_read s p h l) ∙ table_of (slot r s).servers z.servers failed (i.slots s h).servers in
-      let drives = table_same z.drives _ _ (λ d k. table_same z.servers _ _ (λ p l. block_read s d p h k l)
+      let servers = table_same z.servers _ _ (λ p l. own_again s p h l) ∙ table_of (slot r s).servers z.servers failed (i.slots s h).servers in
+      let drives = table_same z.drives _ _ (λ d k. table_same z.servers _ _ (λ p l. disk_again s d p h k l)
       ∙ table_of (get_or (slot r s).drives d []) z.servers blank ((i.slots s h).rows d k)) ∙ table_of (slot r s).drives z.drives [] (i.slots s h).drives in
       λ j. record { servers = servers j; drives = drives j } in
       let slots = table_same z.slots _ _ each ∙ table_of r.slots z.slots no_slot i.long in

@@ -16,13 +16,13 @@ use Rattle.model.specs.Encoding.{table, slot_by, slot_cells, cells_of, room_by}
 use Rattle.model.proofs.Tables.{part, one_by_one, part_more, table_cells}
 
 -- a record and a block are their parts of the row
-pub server_part : (cells : List ℕ) (at : ℕ) → at + server_length ≤ length cells → server_cells (server_in cells at) ≡ part cells at server_length
+server_part : (cells : List ℕ) (at : ℕ) → at + server_length ≤ length cells → server_cells (server_in cells at) ≡ part cells at server_length
 server_part cells at h =
     ap (λ (j : ℕ). server_cells (record (server_in cells at) { phase = get_or cells j 0 })) (sym (add-zero at))
     ∙ sym (one_by_one cells server_length 0 at (omega arith))
     ∙ ap (λ (j : ℕ). part cells j server_length) (add-zero at)
 
-pub block_part : (cells : List ℕ) (at : ℕ) → at + block_length ≤ length cells → block_cells (block_in cells at) ≡ part cells at block_length
+block_part : (cells : List ℕ) (at : ℕ) → at + block_length ≤ length cells → block_cells (block_in cells at) ≡ part cells at block_length
 block_part cells at h =
     ap (λ (j : ℕ). block_cells (record (block_in cells at) { mbal = get_or cells j 0 })) (sym (add-zero at))
     ∙ sym (one_by_one cells block_length 0 at (omega arith))

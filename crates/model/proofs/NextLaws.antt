@@ -23,22 +23,22 @@ use Rattle.model.proofs.Views.{stored_in}
 abbrev pub into : (Server → Room) → Ruling → Result (Room × Answer) Refusal
 into f x = mapped (λ y. (f y.0, y.1)) x
 
-made : (f : Server → Room) (c : Rule) → outcome (makes f c) ≡ into f (outcome c)
+makes_into : (f : Server → Room) (c : Rule) → outcome (makes f c) ≡ into f (outcome c)
 unfolding must
-made f (Must true n c) = made f c
-made f (Must false n c) = refl
-made f (Either true x y) = made f x
-made f (Either false x y) = made f y
-made f (Gives x) = refl
+makes_into f (Must true n c) = makes_into f c
+makes_into f (Must false n c) = refl
+makes_into f (Either true x y) = makes_into f x
+makes_into f (Either false x y) = makes_into f y
+makes_into f (Gives x) = refl
 
 by_rule
     : (r : Room) (st : Step)
     → outcome (makes (stored_in r (view_of st)) (rule_of (config_of r.sizes) r.off (seen_at r (view_slot (view_of st))) st))
     ≡ into (stored_in r (view_of st)) (ruled (config_of r.sizes) r.off (seen_at r (view_slot (view_of st))) st)
-by_rule r st = made (stored_in r (view_of st)) (rule_of (config_of r.sizes) r.off (seen_at r (view_slot (view_of st))) st)
+by_rule r st = makes_into (stored_in r (view_of st)) (rule_of (config_of r.sizes) r.off (seen_at r (view_slot (view_of st))) st)
 
 -- the step's own part is its rule
-pub acts_ruled
+acts_ruled
     : (r : Room) (st : Step)
     → outcome (acts r st) ≡ into (stored_in r (view_of st)) (ruled (config_of r.sizes) r.off (seen_at r (view_slot (view_of st))) st)
 unfolding acts rule_of

@@ -184,11 +184,11 @@ module _ (value : ℕ → Bool) (nought : value 0 ≡ true) (z : Sizes) where
         notes_in v s _ _ _ _ _ s.top s.seenbal s.seeninp
         (within_marked v.written (masks_of z).drives d s.written (drive_legal z fit d h)) s.read)
 
-    pub read_Keeps
+    pub read_keeps
         : (servers off : ℕ) (b : Block) (p d q : ℕ) → BlockIn value b → d < z.drives → q < z.servers
         → Keeps value z (ruling (read_rule servers off v b p d q))
     unfolding reading
-    read_Keeps servers off b p d q t h l =
+    read_keeps servers off b p d q t h l =
         read_cases (Keeps value z) (λ n. tt) v servers off b p d q
         (λ e w m. meeting_in (marking v d q) (marking_in v s fit d q h l) b t)
         (λ next e o m. bidding_in v s next (owned_within servers p next o))

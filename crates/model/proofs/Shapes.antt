@@ -30,11 +30,11 @@ use Rattle.model.specs.Fits.{slot_shaped, shaped, slot_fits_by, fits_by}
 use Rattle.model.proofs.Tables.{got_set, held_set}
 
 -- what holds at each place of a list holds of each element, and the other way round
-pub all_got : {A : Type 0} (q : A → Bool) (l : List A) (d : A) → ((i : ℕ) → i < length l → q (get_or l i d) ≡ true) → list_all q l ≡ true
+all_got : {A : Type 0} (q : A → Bool) (l : List A) (d : A) → ((i : ℕ) → i < length l → q (get_or l i d) ≡ true) → list_all q l ≡ true
 all_got q [] d h = refl
 all_got q (x ∷ xs) d h = and_intro (q x) (list_all q xs) (h 0 (omega arith)) (all_got q xs d (λ i l. h (suc i) (omega arith)))
 
-pub got_all : {A : Type 0} (q : A → Bool) (l : List A) (d : A) → list_all q l ≡ true → (i : ℕ) → i < length l → q (get_or l i d) ≡ true
+got_all : {A : Type 0} (q : A → Bool) (l : List A) (d : A) → list_all q l ≡ true → (i : ℕ) → i < length l → q (get_or l i d) ≡ true
 got_all q [] d e i h = absurd (omega arith)
 got_all q (x ∷ xs) d e zero h = and_left (q x) (list_all q xs) e
 got_all q (x ∷ xs) d e (suc i) h = got_all q xs d (and_right (q x) (list_all q xs) e) i (omega arith)

@@ -28,7 +28,7 @@ use Rattle.range.specs.Range.{legal_drives, masks_of, value_fits}
 use Rattle.range.proofs.RecordLaws.{ServerIn, zero_fits, command_fits_lem, drive_legal}
 use Rattle.model.specs.Concerns.{concerns_at}
 use Rattle.model.specs.Room.{SlotState, Room, no_slot, slot, seen_of, seen_at, record_on, block_on, with_slot}
-use Rattle.model.proofs.RulesKeep.{Keeps, failed_in, own_in, offer_keeps, recall_keeps, rejoin_keeps, bid_keeps, write_keeps, read_Keeps, finish_keeps}
+use Rattle.model.proofs.RulesKeep.{Keeps, failed_in, own_in, offer_keeps, recall_keeps, rejoin_keeps, bid_keeps, write_keeps, read_keeps, finish_keeps}
 use Rattle.model.proofs.Shapes.{Shape, SlotIn, RoomIn, seen_record, seen_block, record_shape, block_shape, record_held, block_held, slot_shape, failure_slot, failure_shape, off_shape, slot_held, failure_held, off_held}
 use Rattle.model.proofs.Tables.{got_set}
 use Rattle.model.proofs.Views.{stored_in}
@@ -159,7 +159,7 @@ module _ (r : Room) (i : Shape r) where
         write_keeps value nought r.sizes i.fit _ (record_at s p a.slot a.server) r.off d a.drive
     rule_held (Read p s d q) e f =
         let a = placed r.sizes (Read p s d q) e in
-        read_Keeps value nought r.sizes i.fit _ (record_at s p a.slot a.server) r.sizes.servers r.off _ p d q
+        read_keeps value nought r.sizes i.fit _ (record_at s p a.slot a.server) r.sizes.servers r.off _ p d q
         ((k.slots s a.slot).blocks d q a.drive a.other) a.drive a.other
     rule_held (Finish p s) e f =
         let a = placed r.sizes (Finish p s) e in

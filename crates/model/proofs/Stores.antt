@@ -1,10 +1,10 @@
 -- Cells stored at a place of a room's cells are the cells of the room with that record, that block or those marks, also where
 -- the room is not in range.
 use Prim.Native.Nat.{ℕ, zero, suc, ◌+◌, ◌*◌, ◌<◌, ◌≤◌}
-use mathlib.Core.Path.{◌≡◌, refl, ◌∙◌, sym, ap}
-use mathlib.Core.List.{List, [], ◌∷◌, ◌++◌, append-nil, append_assoc}
+use mathlib.Core.Path.{◌≡◌, refl, ◌∙◌, ap}
+use mathlib.Core.List.{List, [], ◌∷◌, ◌++◌, append-nil}
 use native.Mathlib.Omega.{arith}
-use lib.ListN.{length, get_or, set, take, drop, length-set, drop_of_length-le}
+use lib.ListN.{length, get_or, set, drop, length-set, drop_of_length-le}
 use lib.Seq.{sets, sets-eq, set-append_left}
 use Rattle.std.specs.List.{flat_map}
 use Rattle.state.specs.Block.{blank}
@@ -13,14 +13,13 @@ use Rattle.state.specs.declared.Block.{Block}
 use Rattle.state.specs.declared.Server.{Server}
 use Rattle.state.specs.declared.Sizes.{Sizes}
 use Rattle.layout.specs.Places.{base, server_length, block_length, slot_length, slot_at, server_at, nth_block_at, block_at}
-use Rattle.layout.specs.Cells.{put, put_server, put_block, server_cells, block_cells, off_at}
-use Rattle.layout.proofs.CellLaws.{put_parts}
-use Rattle.layout.proofs.PlaceLaws.{nth_of, server_within, block_within}
+use Rattle.layout.specs.Cells.{put_server, put_block, server_cells, block_cells, off_at}
+use Rattle.layout.proofs.CellLaws.{put_sets}
+use Rattle.layout.proofs.PlaceLaws.{nth_of}
 use Rattle.model.specs.Room.{SlotState, Room, no_slot, slot, record_on, block_on, with_slot, with_server, with_off}
 use Rattle.model.specs.Encoding.{slot_cells, cells_of}
 use Rattle.model.proofs.Decodes.{Wide, later, drive_length, state_length, rows_length}
 use Rattle.model.proofs.Shapes.{SlotShape, Shape}
-use Rattle.model.proofs.Again.{cells_row}
 
 -- cells stored in the front of a row, in its back, and as the whole of it
 sets_left : (vs xs ys : List ℕ) (i : ℕ) → i + length vs ≤ length xs → sets (xs ++ ys) i vs ≡ sets xs i vs ++ ys
@@ -46,7 +45,7 @@ sets_whole xs vs e =
 
 module _ {A : Type 0} (enc : A → List ℕ) (w : ℕ) (d : A) where
   -- cells stored within the i-th part change that part of the list
-  pub sets_rows
+  sets_rows
       : (items : List A) → Wide enc w d items → (i b : ℕ) (vs : List ℕ) (a : A) → i < length items → b + length vs ≤ w
       → sets (enc (get_or items i d)) b vs ≡ enc a → sets (flat_map enc items) (i * w + b) vs ≡ flat_map enc (set items i a)
   sets_rows [] h i b vs a l k e = absurd (omega arith)
@@ -116,14 +115,14 @@ module _ (r : Room) (i : Shape r) where
       (sets_rows slot_cells (slot_length r.sizes) no_slot r.slots
       (λ j l. state_length r.sizes (slot r j) (i.slots j (omega arith))) s b vs v (omega arith) k e)
 
-  pub server_stored
+  server_stored
       : (s p : ℕ) (u : Server) → s < r.sizes.slots → p < r.sizes.servers
       → sets (cells_of r) (server_at r.sizes s p) (server_cells u) ≡ cells_of (with_server r s p u)
   unfolding server_at slot_length
   server_stored s p u h l =
       slot_stored s (server_length * p) (server_cells u) _ h (omega arith) (record_stored r.sizes (slot r s) (i.slots s h) p u l)
 
-  pub disk_stored
+  disk_stored
       : (s d p : ℕ) (b : Block) → s < r.sizes.slots → d < r.sizes.drives → p < r.sizes.servers
       → sets (cells_of r) (block_at r.sizes s d p) (block_cells b) ≡ cells_of (with_slot r s (block_on (slot r s) d p b))
   unfolding block_at nth_block_at slot_length
@@ -137,21 +136,13 @@ module _ (r : Room) (i : Shape r) where
   unfolding cells_of
   marks_stored m = refl
 
--- a part that is stored cell by cell
-put_sets : (cells : List ℕ) (at : ℕ) (xs : List ℕ) → at + length xs ≤ length cells → put cells at xs ≡ sets cells at xs
-put_sets cells at xs h = put_parts cells at xs h ∙ sym (append_assoc (take at cells) xs (drop (at + length xs) cells)) ∙ sym (sets-eq xs cells at h)
-
-module _ (r : Room) (i : Shape r) where
+  -- and so they are where they are stored cell by cell
   pub record_put : (s p : ℕ) (v : Server) → s < r.sizes.slots → p < r.sizes.servers → put_server r.sizes (cells_of r) s p v ≡ cells_of (with_server r s p v)
   unfolding put_server
-  record_put s p v h l =
-      let row = (cells_row r i).exact in
-      put_sets (cells_of r) (server_at r.sizes s p) (server_cells v) (omega (arith, server_within r.sizes i.fit s p h l)) ∙ server_stored r i s p v h l
+  record_put s p v h l = put_sets (cells_of r) (server_at r.sizes s p) (server_cells v) ∙ server_stored s p v h l
 
   pub block_put
       : (s d p : ℕ) (b : Block) → s < r.sizes.slots → d < r.sizes.drives → p < r.sizes.servers
       → put_block r.sizes (cells_of r) s d p b ≡ cells_of (with_slot r s (block_on (slot r s) d p b))
   unfolding put_block
-  block_put s d p b h k l =
-      let row = (cells_row r i).exact in
-      put_sets (cells_of r) (block_at r.sizes s d p) (block_cells b) (omega (arith, block_within r.sizes i.fit s d p h k l)) ∙ disk_stored r i s d p b h k l
+  block_put s d p b h k l = put_sets (cells_of r) (block_at r.sizes s d p) (block_cells b) ∙ disk_stored s d p b h k l

@@ -35,7 +35,7 @@ room_by z cells =
 abbrev pub room_of : List ℕ → Room
 room_of cells = room_by (sizes_of cells) cells
 
--- whether a row is a room: it is as long as its sizes say, and what is read of it is in range
+-- whether a row is a room: its sizes fit, it is as long as they say, and what is read of it is in range
 abbrev pub is_room : List ℕ → Bool
 is_room cells = is_row cells && fits (room_of cells)
 

@@ -56,11 +56,12 @@ abbrev pub with_slot : Room → ℕ → SlotState → Room
 with_slot r s v = record r { slots = set r.slots s v }
 
 -- The four ways in which a step changes a room.
+
 -- the room in which server p has this record in slot s
 abbrev pub with_server : Room → ℕ → ℕ → Server → Room
 with_server r s p w = with_slot r s (record_on (slot r s) p w)
 
--- the room in which it has, and the own block of that record stands on drive d
+-- the room in which server p has this record in slot s, and that record's own block on drive d
 abbrev pub with_write : Room → ℕ → ℕ → ℕ → Server → Room
 with_write r s p d w = with_slot r s (block_on (record_on (slot r s) p w) d p (own_block w))
 

@@ -66,7 +66,7 @@ module _ (limits : List ℕ) (value : ℕ → Bool) (z : Sizes) (r : List ℕ) w
             (and_right (servers_fit value z r s) (blocks_fit value z r s) (slot s h)) k l;
       }
 
-  pub say_cells : InRange limits value z r → room_fits_by value limits z r ≡ true
+  say_cells : InRange limits value z r → room_fits_by value limits z r ≡ true
   unfolding slot_fits servers_fit blocks_fit
   say_cells i =
       let off = within (off_of r) (legal_drives z) in

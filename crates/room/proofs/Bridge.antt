@@ -88,7 +88,7 @@ module _ (cells : List ℕ) (st : Step) where
     shape = row_shape z cells row
 
     -- the rule says the same of the room
-    pub same_ruling : ruled (config_of z) (off_of cells) (seen_at room here) st ≡ says
+    same_ruling : ruled (config_of z) (off_of cells) (seen_at room here) st ≡ says
     same_ruling = ruled_alike z (off_of cells) (seen_alike z cells here (view_slot_in z row.fit (view_of st) (in_view z st b))) st b
 
     -- the record of the rule is in range where the room is, by any test of a value that 0 and the command of the step pass
@@ -109,7 +109,7 @@ module _ (cells : List ℕ) (st : Step) where
     stored_cells (AtServer p) v x i = failure_put room shape p i
     stored_cells (AtDrive d on) v x i = marks_stored room shape _
 
-    pub effect_cells : (v : Server) (x : Answer) → says ≡ Ok (v, x) → left_by (settled z cells) cells (effect_of z cells st) ≡ cells_of (stored_in room (view_of st) v)
+    effect_cells : (v : Server) (x : Answer) → says ≡ Ok (v, x) → left_by (settled z cells) cells (effect_of z cells st) ≡ cells_of (stored_in room (view_of st) v)
     unfolding effect_of
     effect_cells v x e =
         ap (λ (y : Ruling). left_by (settled z cells) cells (mapped (effect_by cells st) y)) e

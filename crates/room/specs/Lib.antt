@@ -3,4 +3,5 @@ pub mod Open
 pub mod Judge
 pub mod Ready
 pub mod Step
+-- a step on a row, by the room that the row is
 pub mod ByNext

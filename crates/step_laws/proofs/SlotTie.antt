@@ -24,7 +24,7 @@ use Rattle.room.specs.Step.{settled}
 use Rattle.model.specs.Concerns.{concerns_at, concerns}
 use Rattle.model.specs.Room.{Room, seen_at}
 use Rattle.model.specs.Encoding.{cells_of, room_by}
-use Rattle.model.proofs.Decodes.{server_read, block_read}
+use Rattle.model.proofs.Decodes.{own_again, disk_again}
 use Rattle.model.proofs.Shapes.{Shape}
 use Rattle.model.proofs.Slots.{stored_seen, stored_shape}
 use Rattle.model.proofs.Views.{stored_in}
@@ -39,7 +39,7 @@ one_rule σ (AtDrive d on) f plainly t e = absurd (true≢false (sym e))
 
 -- a slot of a room, and that of its cells
 cells_seen : (r : Room) (i : Shape r) (t : ℕ) → t < r.sizes.slots → Alike (config_of r.sizes) (seen_at r t) (seen r.sizes (cells_of r) t)
-cells_seen r i t h p l = record { own = sym (server_read r i t p h l); disk = λ d k. sym (block_read r i t d p h k l) }
+cells_seen r i t h p l = record { own = sym (own_again r i t p h l); disk = λ d k. sym (disk_again r i t d p h k l) }
 
 module _ (r : List ℕ) (st : Step) (row : Row (sizes_of r) r) (b : places_fit (sizes_of r) st ≡ true) where
   abbrev z : Sizes

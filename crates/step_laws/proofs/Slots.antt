@@ -1,4 +1,4 @@
--- A slot of the cells after a step, as the machine of one slot has it.
+-- What a step makes of slot t, as the machine of one slot has it.
 use Prim.Native.Nat.{ℕ}
 use mathlib.Core.Bool.{cond}
 use Rattle.state.specs.declared.Sizes.{Sizes}
@@ -7,6 +7,5 @@ use Rattle.synod.specs.Slot.{Slot, config_of}
 use Rattle.synod.proofs.Machine.{ruled, after}
 use Rattle.model.specs.Concerns.{concerns}
 
--- what the step makes of slot t
 unfoldable pub after_at : Sizes → ℕ → ℕ → Slot → Step → Slot
 after_at z off t σ st = cond (concerns t st) (after σ st (ruled (config_of z) off σ st)) σ
