@@ -19,3 +19,14 @@ pub fn read_full<'a, R: Read>(from: &mut R, buffer: &'a mut [u8]) -> &'a [u8]
     }
     &buffer[..done]
 }
+
+// Reads what is left of an input, up to its end or a read that fails, over and over into the same bytes. Not by io::copy, which goes
+// on after a read that was interrupted, and reads 8,192 bytes at a time. A proved loop has to end, and nothing says that an input
+// does: it counts its turns, up to a number that no run uses up.
+pub fn skip_rest<R: Read>(from: &mut R, bytes: &mut [u8]) {
+    for _ in 0..u64::MAX {
+        if from.read(bytes).unwrap_or(0) == 0 {
+            break;
+        }
+    }
+}

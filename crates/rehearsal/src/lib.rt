@@ -11,7 +11,7 @@ ghost use Rattle.rehearsal.specs.Rehearsal.{Takes, record_lines, room_after, lin
 ghost use Rattle.rehearsal.specs.Buffer.{Holds, record_max, step_max, text_max, Adds, HasLeft};
 ghost use Rattle.rehearsal.specs.Output.{Rehearses};
 
-use input::read_full;
+use input::{read_full, skip_rest};
 use records::Records;
 use register::{Answer, Limits, Refusal, Step};
 use state::Sizes;
@@ -38,13 +38,14 @@ pub fn rehearse_from<R: Read, W: Write>(from: &mut R, to: &mut W) -> io::Result<
 {
     let mut buffer = [0u8; INPUT_MAX + 1];
     let input = read_full(from, &mut buffer);
-    if INPUT_MAX < input.len() {
-        // What is left of an input that is too long is read too, so that whoever writes it can end.
-        let _ = io::copy(from, &mut io::sink());
-    }
+    let too_long = INPUT_MAX < input.len();
     let mut room = [0u32; CELLS_MAX];
     let mut out = [0u8; TEXT_MAX];
     let length = rehearse(input, &mut room, &mut out);
+    if too_long {
+        // What is left of an input that is too long is read too, so that whoever writes it can end.
+        skip_rest(from, &mut buffer);
+    }
     to.write_all(&out[..length])
 }
 
