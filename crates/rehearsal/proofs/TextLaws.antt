@@ -23,7 +23,7 @@ use Rattle.rehearsal.specs.Buffer.{record_max, step_max}
 pub step_short : (index : ℕ) (a : Answered) → index ≤ record_max → number_of a < 2 ^ 32 → length (step_line index a) ≤ step_max
 unfolding step_line
 step_short index a h k =
-    simp length-append (omega (arith, digits_most 5 index (omega arith) (omega arith) (omega arith), digits_ten (number_of a) k, word_length a))
+    simp length-append (omega (arith, digits_most 4 index (omega arith), digits_ten (number_of a) k, word_length a))
 
 -- a script with no record, with one that can't be read, and with one more record
 pub lines_none : (index : ℕ) (room : List ℕ) → record_lines index room (ended Between) ≡ []

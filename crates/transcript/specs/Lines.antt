@@ -21,6 +21,10 @@ answer_text answer = codes " " ++ word_of answer ++ codes " " ++ digits (number_
 unfoldable pub step_line : ℕ → Answered → List ℕ
 step_line index answer = digits index ++ answer_text answer ++ codes "\n"
 
+-- "1 refused 10", where the number may be another than a refusal's
+unfoldable pub refused_line : ℕ → ℕ → List ℕ
+refused_line index number = digits index ++ codes " refused " ++ digits number ++ codes "\n"
+
 -- "server 0 taken 1 skipped 0"
 unfoldable pub server_line : ℕ → ℕ → ℕ → List ℕ
 server_line server taken skipped =
@@ -40,14 +44,18 @@ open_line number = codes "open refused " ++ digits number ++ codes "\n"
 abbrev pub line_max : ℕ
 line_max = 54
 
--- a text pushed behind some bytes, and how much longer that makes them at most
-pub record Pushes (old text new : List ℕ) (most : ℕ) : Type 0 where
-  pub pushed : new ≡ old ++ text
-  pub upper_bound : length new ≤ length old + most
-
 -- the buffer with some bytes in it from a place on
 unfoldable pub placed : List ℕ → ℕ → List ℕ → List ℕ
 placed buffer at text = take at buffer ++ text ++ drop (at + length text) buffer
+
+-- a text put behind what is there, in the same buffer, and how much longer that makes it at most
+pub record Puts (old : Transcript) (text : List ℕ) (new : Transcript) (most : ℕ) : Type 0 where
+  pub place : new.length ≡ old.length + length text
+  pub contents : new.buffer.now ≡ placed old.buffer.now old.length text
+  pub upper_bound : length text ≤ most
+  pub fits : new.length ≤ length new.buffer.now
+  pub same_size : length new.buffer.now ≡ length old.buffer.now
+  pub same_reference : new.buffer.ghost_name ≡ old.buffer.ghost_name
 
 -- whether any line has room from a place on
 unfoldable pub has_room : ℕ → ℕ → Bool
