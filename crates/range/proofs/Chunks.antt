@@ -23,7 +23,7 @@ use Rattle.quorum.specs.Sets.{all_below}
 use Rattle.state.specs.declared.Block.{Block}
 use Rattle.state.specs.Block.{same_block}
 use Rattle.layout.specs.Cells.{block_in}
-use Rattle.range.specs.Range.{blocks_of, every_block}
+use Rattle.range.specs.Range.{blocks_of, every_block, every_pair}
 use Rattle.range.proofs.Together.{same_block_lem}
 
 -- one test follows from another, and two tests are one after the other
@@ -48,8 +48,7 @@ fold_all f a (x ∷ xs) = fold_all f (a && f x) xs ∙ and_assoc a (f x) (list_a
 
 -- blocks that are equal to others, one by one
 pub same_pairs
-    : (xs ys : List (List ℕ)) → length xs ≡ length ys → list_all (λ p. same_block (block_in p.0 0) (block_in p.1 0)) (zip xs ys) ≡ true
-    → blocks_of ys ≡ blocks_of xs
+    : (xs ys : List (List ℕ)) → length xs ≡ length ys → every_pair same_block xs ys ≡ true → blocks_of ys ≡ blocks_of xs
 same_pairs [] [] l e = refl
 same_pairs [] (y ∷ ys) l e = absurd (omega arith)
 same_pairs (x ∷ xs) [] l e = absurd (omega arith)

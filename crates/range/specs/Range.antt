@@ -1,6 +1,6 @@
 -- Cells in range (SPEC, "The room in memory"): refusal 3 says that they are not.
 use Rattle.std.specs.Prelude.{ℕ, ◌*◌, ◌/◌, ◌%◌, Bool, ◌&&◌, ◌||◌, List, length, take, drop, map, eqb, leb, ltb}
-use Rattle.std.specs.List.{list_all}
+use Rattle.std.specs.List.{list_all, zip}
 use Rattle.std.specs.Simd.{first_chunks}
 use Rattle.command.specs.Command.{limits_fit, is_command}
 use Rattle.quorum.specs.Sets.{all_below, gathered, within}
@@ -63,6 +63,10 @@ blocks_of blocks = map (λ cells. block_in cells 0) blocks
 
 abbrev pub every_block : (Block → Bool) → List (List ℕ) → Bool
 every_block test blocks = list_all (λ cells. test (block_in cells 0)) blocks
+
+-- and of each beside the one at its place among others
+abbrev pub every_pair : (Block → Block → Bool) → List (List ℕ) → List (List ℕ) → Bool
+every_pair test blocks others = list_all (λ p. test (block_in p.0 0) (block_in p.1 0)) (zip blocks others)
 
 -- a slot as a row of its own, which begins with n cells of server records
 abbrev pub slot_in : (ℕ → Bool) → Masks → ℕ → List ℕ → Bool

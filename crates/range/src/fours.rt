@@ -6,7 +6,7 @@ ghost use Rattle.command.specs.Tops.{value_by};
 ghost use Rattle.state.specs.declared.Block.{Block};
 ghost use Rattle.state.specs.Block.{blank, same_block};
 ghost use Rattle.layout.specs.Cells.{block_in};
-ghost use Rattle.range.specs.Range.{ballots_fit, values_fit, block_fits, blocks_of, every_block, holds_only};
+ghost use Rattle.range.specs.Range.{ballots_fit, values_fit, block_fits, every_block, every_pair, holds_only};
 
 use crate::values::{ballots_fit, block_fits, values_fit};
 use command::Tops;
@@ -121,7 +121,7 @@ fn four_like(tops: &Tops, judged: &Four, four: &Four) -> bool
 
 // Whether two fours are alike, by pairs of blocks. `==` of the arrays stops at each cell, and a full room takes a fifth longer.
 fn four_same(a: &Four, b: &Four) -> bool
-    ensures { result ≡ true → blocks_of b.now ≡ blocks_of a.now }
+    ensures { result ≡ every_pair same_block a.now b.now }
 {
     a.iter()
         .zip(b.iter())
