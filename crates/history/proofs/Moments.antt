@@ -129,7 +129,7 @@ module _ (limits : List ℕ) (z : Sizes) (cells : List ℕ) (now : Moment limits
               whole = effect_kept limits z cells now.whole st h k;
               alike =
                   λ t l.
-                  alike_then (slot_after st h t l).alike (slot_tie z cells now.whole.sizes now.whole.range.row st h t l);
+                  alike_then (slot_after st h t l).alike (slot_tie z cells now.whole.range.row st h t l);
               holds = λ t l. (slot_after st h t l).holds;
             };
         moves = λ t l. (slot_after st h t l).moves;

@@ -1,6 +1,6 @@
 -- A step whose numbers fit is answered what its rule answers, and leaves each slot as the machine of one slot says.
 use Prim.Native.Nat.{ℕ, ◌<◌}
-use mathlib.Core.Path.{◌≡◌, refl, ◌∙◌, sym, ap, subst}
+use mathlib.Core.Path.{◌≡◌, ◌∙◌, sym, ap, subst}
 use mathlib.Core.Bool.{true}
 use mathlib.Core.List.{List}
 use Rattle.std.specs.Prelude.{Ok}
@@ -46,4 +46,4 @@ slot_by_rule r st i places command t h =
     let z = sizes_of r in
     subst (λ e. Alike (config_of z) (after_at z (off_of r) t (seen z r t) st) (seen z (left_by (settled z r) r e) t))
     (sym (passed r st i places command))
-    (slot_tie z r refl (range_says r i).row st places t h)
+    (slot_tie z r (range_says r i).row st places t h)

@@ -1,6 +1,6 @@
 -- A step leaves every slot that it does not concern as it was: only Fail concerns more than the slot it names.
 use Prim.Native.Nat.{ℕ, ◌<◌}
-use mathlib.Core.Path.{◌≡◌, refl}
+use mathlib.Core.Path.{◌≡◌}
 use mathlib.Core.Bool.{false}
 use mathlib.Core.List.{List}
 use Rattle.checks.specs.Checks.{left_by}
@@ -27,4 +27,4 @@ Slot-kept cells st t h e =
     (λ a. alike_same (config_of z) (seen z cells t))
     (λ a b. alike_same (config_of z) (seen z cells t))
     (λ a b c. alike_same (config_of z) (seen z cells t))
-    (λ a b c. rw e at (slot_tie z cells refl (range_says cells a).row st b t h))
+    (λ a b c. rw e at (slot_tie z cells (range_says cells a).row st b t h))

@@ -2,6 +2,7 @@
 -- in range, what it leaves alone, and that only a drive step changes the off marks.
 pub mod Slots
 pub mod StepKeeps
+pub mod Heads
 pub mod SlotTie
 pub mod Lowest
 pub mod Commits

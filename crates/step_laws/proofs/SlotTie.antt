@@ -30,6 +30,7 @@ use Rattle.model.proofs.Slots.{stored_seen, stored_shape}
 use Rattle.model.proofs.Views.{stored_in}
 use Rattle.room.proofs.Bridge.{room, says, shape, plainly, seen_alike, by_effect}
 use Rattle.step_laws.proofs.Slots.{after_at}
+use Rattle.step_laws.proofs.Heads.{headed, headed_row, headed_behind, off_behind, seen_behind, left_seen}
 
 -- the rule says the same at each slot that the view concerns
 one_rule : (σ : ℕ → Slot) (w : View) (f : Slot → Ruling) → ((τ : Slot) → Plain w (f τ)) → (t : ℕ) → concerns_at t w ≡ true → f (σ (view_slot w)) ≡ f (σ t)
@@ -74,12 +75,11 @@ module _ (r : List ℕ) (st : Step) (row : Row (sizes_of r) r) (b : places_fit (
       (subst (λ (τ : Slot). Alike (config_of z) τ (seen z (cells_of u) t)) made
       (cells_seen u (stored_shape (room r st) (shape r st row b) (view_of st) v (in_view z st b)) t h)))
 
--- the same for sizes that are known to be those in the row's head
+-- the same for every row that is as long as a room of the sizes z, whatever sizes stand in its head
 pub slot_tie
-    : (z : Sizes) (r : List ℕ) → sizes_of r ≡ z → Row z r → (st : Step) → places_fit z st ≡ true → (t : ℕ) → t < z.slots
+    : (z : Sizes) (r : List ℕ) → Row z r → (st : Step) → places_fit z st ≡ true → (t : ℕ) → t < z.slots
     → Alike (config_of z) (after_at z (off_of r) t (seen z r t) st) (seen z (left_by (settled z r) r (effect_of z r st)) t)
-slot_tie z r e =
-    subst
-    (λ (y : Sizes). Row y r → (st : Step) → places_fit y st ≡ true → (t : ℕ) → t < y.slots
-    → Alike (config_of y) (after_at y (off_of r) t (seen y r t) st) (seen y (left_by (settled y r) r (effect_of y r st)) t)) e
-    (λ row st b t h. own_tie r st row b t h)
+slot_tie z r row st b t h =
+    let e = headed_behind z r in
+    subst (λ (τ : Slot). Alike (config_of z) (after_at z (off_of r) t (seen z r t) st) τ) (sym (left_seen z row.fit st t e))
+    (rw (off_behind e, seen_behind z row.fit e t) (own_tie (headed z r) st (headed_row z r row) b t h))
