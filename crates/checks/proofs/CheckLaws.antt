@@ -32,6 +32,13 @@ AllGive P (Must b n c) = AllGive P c
 AllGive P (Either t x y) = AllGive P x × AllGive P y
 AllGive P (Gives a) = P a
 
+-- and what P gives of each, Q, holds of it too
+pub All-map
+    : {A : Type 0} (P Q : A → Type 0) → ((a : A) → P a → Q a) → (c : Checked A) → AllGive P c → AllGive Q c
+All-map P Q f (Must b n c) h = All-map P Q f c h
+All-map P Q f (Either t x y) h = (All-map P Q f x h.0, All-map P Q f y h.1)
+All-map P Q f (Gives a) h = f a h
+
 pub all_give
     : {A : Type 0} (P : Result A Refusal → Type 0) → ((n : Refusal) → P (Err n)) → (c : Checked A)
     → AllGive (λ a. P (Ok a)) c → P (outcome c)

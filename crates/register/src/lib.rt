@@ -14,4 +14,4 @@ pub use next_step::next;
 pub use record::{Fields, read_fields, read_record, write_fields, write_record};
 pub use room::opening::open;
 pub use room::stepping::step;
-pub use state::{Answer, Sizes, Step};
+pub use state::{Answer, Sizes, Step, code, number};
